@@ -1,0 +1,4 @@
+mod ReadLaws
+mod NearLaws
+mod CoverLaws
+mod RowLaws

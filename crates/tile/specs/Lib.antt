@@ -1,0 +1,10 @@
+pub mod Bitwise
+pub mod Cover
+pub mod Examples
+pub mod Faults
+pub mod Kinds
+pub mod Named
+pub mod Near
+pub mod Rows
+pub mod Texts
+pub mod Words
