@@ -1,0 +1,11 @@
+mod Answered
+mod Standing
+mod Spelled
+mod Lawful
+mod PixelRecords
+mod Runs
+mod Parses
+mod Held
+mod Parsed
+mod Limits
+mod Exact
