@@ -5,6 +5,8 @@ use mathlib.Core.List.{List}
 use Prim.Native.Nat.{ℕ, _*_, _/_, _≤_, _<_}
 use native.Mathlib.Omega.{arith}
 use lib.ListN.{length}
+use borrow.Author.Tests.{le-leb}
+use Rattle.std.proofs.shelf.Tests.{cond-true}
 use Rattle.std.proofs.shelf.Ways.{tells}
 use Rattle.std.specs.declared.option.Option.{Option}
 use Rattle.std.specs.declared.option.Option.the-variants.{Some, None}
@@ -12,7 +14,7 @@ use Rattle.std.specs.Options.{isSome}
 use Rattle.tile.specs.Kinds.{Kind, KindLaws}
 use Rattle.tile.specs.Named.{named-width, named-lawful}
 use Rattle.tile.specs.Words.{AreWords}
-use Rattle.dump.specs.Bytes.{BodyRead, words-in}
+use Rattle.dump.specs.Bytes.{body-pixel, words-in}
 use Rattle.dump.proofs.Spelled.{length-words-in}
 
 pub few-words : (n : ℕ) → named-width n ≤ 5
@@ -33,9 +35,9 @@ module _ {P R : Type 0} (m : Kind P R) (laws : KindLaws m) (named : 0 < named-wi
       let z : _≡_ {A = ℕ} 0 1 = cc in
       omega arith))
 
-  pub body-told : (b : List ℕ) (o : Option P) → length b ≡ 4 * named-width (m .number) → BodyRead m b o → isSome o ≡ named-lawful (m .number) (words-in b)
-  body-told b o size read =
+  pub body-told : (b : List ℕ) (o : Option P) → length b ≡ 4 * named-width (m .number) → o ≡ body-pixel m b → AreWords (words-in b) → isSome o ≡ named-lawful (m .number) (words-in b)
+  body-told b o size read are =
       let few = few-words (m .number) in
-      let small : length b ≤ 20 = omega arith in
+      let fits = le-leb (length b) 20 (omega arith) in
       let long = length-words-in b in
-      reads-told (words-in b) o (omega arith) (read .words small) (read .read small)
+      reads-told (words-in b) o (omega arith) are (read ∙ cond-true _ _ _ fits)

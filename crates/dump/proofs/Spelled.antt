@@ -1,13 +1,16 @@
 -- Words and the bytes that spell them. Assumes nothing.
 use mathlib.Core.Path.{_≡_, refl, sym, ap, ap₂, _∙_}
+use mathlib.Core.Bool.{Bool, true, false, _&&_}
 use mathlib.Core.List.{List, [], _∷_, _++_}
 use Prim.Native.Nat.{ℕ, zero, suc, _+_, _*_, _/_, _≤_, _<_}
 use native.Mathlib.Omega.{arith}
+use lib.Dec.{eqb}
 use lib.ListN.{length, getD, take, set}
+use Rattle.std.proofs.shelf.Tests.{and-from, eq-eqb, ne-eqb}
 use Rattle.std.specs.declared.option.Option.the-variants.{Some, None}
 use Rattle.tile.specs.Words.{AreWords}
 use Rattle.std.proofs.shelf.Lists.{take-more, take-more-set, getD-drop}
-use Rattle.dump.specs.Bytes.{word, words-in, word-of}
+use Rattle.dump.specs.Bytes.{all-zero, word, words-in, word-of}
 
 pub length-words-in : (b : List ℕ) → length (words-in b) ≡ length b / 4
 length-words-in [] = refl
@@ -36,26 +39,14 @@ spelled-more b ws i v h l e is =
     let long = length-words-in b in
     take-more-set ws i v l ∙ ap₂ (λ (s : List ℕ) (n : ℕ). s ++ n ∷ []) e (is ∙ sym (word-in b i (omega arith))) ∙ sym (take-more (words-in b) i 0 (omega arith))
 
-pub set-words : (ws : List ℕ) (i v : ℕ) → AreWords ws → v < 4294967296 → AreWords (set ws i v)
-set-words [] i v are h k = are k
-set-words (w ∷ ws) zero v are h zero = h
-set-words (w ∷ ws) zero v are h (suc k) = are (suc k)
-set-words (w ∷ ws) (suc i) v are h zero = are 0
-set-words (w ∷ ws) (suc i) v are h (suc k) = set-words ws i v (λ j. are (suc j)) h k
-
-pub take-words : (n : ℕ) (ws : List ℕ) → AreWords ws → AreWords (take n ws)
-take-words zero ws are k = omega arith
-take-words (suc n) [] are k = omega arith
-take-words (suc n) (w ∷ ws) are zero = are 0
-take-words (suc n) (w ∷ ws) are (suc k) = take-words n ws (λ j. are (suc j)) k
-
-pub zero-words : AreWords (0 ∷ 0 ∷ 0 ∷ 0 ∷ 0 ∷ [])
-zero-words zero = omega arith
-zero-words (suc zero) = omega arith
-zero-words (suc (suc zero)) = omega arith
-zero-words (suc (suc (suc zero))) = omega arith
-zero-words (suc (suc (suc (suc zero)))) = omega arith
-zero-words (suc (suc (suc (suc (suc k))))) = omega arith
+-- what bytes spell are words
+pub words-fit : (b : List ℕ) → ((i : ℕ) → getD b i 0 < 256) → AreWords (words-in b)
+words-fit [] h k = omega arith
+words-fit (x ∷ []) h k = omega arith
+words-fit (x ∷ y ∷ []) h k = omega arith
+words-fit (x ∷ y ∷ z ∷ []) h k = omega arith
+words-fit (x ∷ y ∷ z ∷ w ∷ b) h zero = omega (arith, h 0, h 1, h 2, h 3)
+words-fit (x ∷ y ∷ z ∷ w ∷ b) h (suc k) = words-fit b (λ i. h (suc (suc (suc (suc i))))) k
 
 pub no-word : (ws : List ℕ) (i : ℕ) → length ws ≤ i → None ≡ word-of ws i
 no-word [] i h = refl
@@ -66,3 +57,16 @@ pub some-word : (ws : List ℕ) (i : ℕ) → i < length ws → Some (getD ws i 
 some-word [] i h = absurd (omega arith)
 some-word (w ∷ ws) zero h = refl
 some-word (w ∷ ws) (suc i) h = some-word ws i (omega arith)
+
+pub zeros : (ws : List ℕ) → ((k : ℕ) → k < length ws → getD ws k 0 ≡ 0) → all-zero ws ≡ true
+zeros [] h = refl
+zeros (w ∷ ws) h = and-from (eqb w 0) (all-zero ws) (eq-eqb w 0 (h 0 (omega arith))) (zeros ws (λ k l. h (suc k) (omega arith)))
+
+pub no-zeros : (ws : List ℕ) (k : ℕ) → (getD ws k 0 ≡ 0 → ⊥) → all-zero ws ≡ false
+no-zeros [] k h = absurd (h refl)
+no-zeros (w ∷ ws) zero h = ap (λ b. b && all-zero ws) (ne-eqb w 0 h)
+no-zeros (w ∷ ws) (suc k) h = ap (λ b. eqb w 0 && b) (no-zeros ws k h) ∙ and-false (eqb w 0)
+  where
+    and-false : (b : Bool) → (b && false) ≡ false
+    and-false true = refl
+    and-false false = refl

@@ -1,12 +1,12 @@
 -- Numbers in bytes, high byte first, and the pixel that a body spells. Assumes nothing.
-use mathlib.Core.Path.{_≡_}
+use mathlib.Core.Bool.{Bool, true, cond, _&&_}
 use mathlib.Core.List.{List, [], _∷_}
-use Prim.Native.Nat.{ℕ, zero, suc, _+_, _*_, _≤_, _<_}
+use Prim.Native.Nat.{ℕ, zero, suc, _+_, _*_}
+use lib.Dec.{eqb, leb}
 use lib.ListN.{length, getD}
 use Rattle.std.specs.declared.option.Option.{Option}
 use Rattle.std.specs.declared.option.Option.the-variants.{Some, None}
 use Rattle.tile.specs.Kinds.{Kind}
-use Rattle.tile.specs.Words.{AreWords}
 
 -- the number in the two bytes from i on
 abbrev pub half : List ℕ → ℕ → ℕ
@@ -30,8 +30,11 @@ word-of [] i = None
 word-of (w ∷ ws) zero = Some w
 word-of (w ∷ ws) (suc i) = word-of ws i
 
+-- only zero words
+abbrev pub all-zero : List ℕ → Bool
+all-zero [] = true
+all-zero (w ∷ ws) = eqb w 0 && all-zero ws
+
 -- the pixel whose words a body spells; no pixel record spells more than five
-pub record BodyRead {P R : Type 0} (m : Kind P R) (body : List ℕ) (r : Option P) : Type 0 where
-  pub read : length body ≤ 20 → r ≡ m .reads (words-in body)
-  pub words : length body ≤ 20 → AreWords (words-in body)
-  pub long : 20 < length body → r ≡ None
+abbrev pub body-pixel : {P R : Type 0} → Kind P R → List ℕ → Option P
+body-pixel m body = cond (leb (length body) 20) (m .reads (words-in body)) None
