@@ -73,4 +73,4 @@ Unread text Memory = Unit {0}
 abbrev pub bad-hex-text : HexFault → List ℕ
 bad-hex-text (NoDigit at) = codes "bad hex: no digit at index " ++ decimal at
 bad-hex-text OddDigit = codes "bad hex: odd number of digits"
-bad-hex-text Memory = codes "out of memory"
+bad-hex-text Memory = []

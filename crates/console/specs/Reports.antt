@@ -5,8 +5,7 @@ use mathlib.Core.List.{List, [], _∷_, _++_}
 use mathlib.Core.Logic.{_⊎_}
 use Prim.Native.Nat.{ℕ}
 use lib.Chars.{codes}
-use Rattle.std.specs.declared.option.Option.{Option}
-use Rattle.std.specs.declared.option.Option.the-variants.{Some, None}
+use Rattle.std.specs.declared.option.Option.the-variants.{Some}
 use Rattle.std.specs.Written.{decimal}
 use Rattle.tile.specs.declared.fault.Fault.{Fault}
 use Rattle.tile.specs.Texts.{fault-text}
@@ -15,6 +14,7 @@ use Rattle.dump.specs.Bytes.{all-zero}
 use Rattle.dump.specs.Grammar.{Content, HasForm, Placed}
 use Rattle.dump.specs.Order.{Fails}
 use Rattle.console.specs.declared.hex.HexFault.{HexFault}
+use Rattle.console.specs.declared.hex.HexFault.the-variants.{Memory}
 use Rattle.console.specs.Hex.{Unread, bad-hex-text, hex-bytes}
 
 -- a text as a line of its own
@@ -34,10 +34,14 @@ words-text (w ∷ ws) = (32 ∷ decimal w) ++ words-text ws
 abbrev pub pixel-line : ℕ → ℕ → List ℕ → List ℕ
 pixel-line rank number ws = (codes "  " ++ (decimal rank ++ (codes "." ++ (decimal number ++ codes ":")))) ++ (words-text ws ++ (10 ∷ []))
 
+-- the line of a pixel, nothing of a blank one
+abbrev pub shown-pixel : Placed → List ℕ
+shown-pixel p = cond (all-zero (p .words)) [] (pixel-line (p .rank) (p .number) (p .words))
+
 -- a line for each pixel that is not blank
 abbrev pub pixel-lines : List Placed → List ℕ
 pixel-lines [] = []
-pixel-lines (p ∷ ps) = cond (all-zero (p .words)) [] (pixel-line (p .rank) (p .number) (p .words)) ++ pixel-lines ps
+pixel-lines (p ∷ ps) = shown-pixel p ++ pixel-lines ps
 
 -- all that is told of a dump that has the form
 abbrev pub report : Content → List ℕ
@@ -47,10 +51,10 @@ report c = head-line (c .head) ++ pixel-lines (c .pixels)
 abbrev pub Told : List ℕ → List ℕ → Type 0
 Told bytes text = ((c : Content) × HasForm bytes c × (text ≡ report c)) ⊎ ((f : Fault) × Fails bytes f × (text ≡ line-of (fault-text f)))
 
--- the answer to a line: what is told of the bytes that it spells, or why it spells none
-abbrev pub Answered : Option (List ℕ) → List ℕ → List ℕ → Type 0
-Answered (Some bytes) line text = Told bytes text
-Answered None line text = (e : HexFault) × Unread line e × (text ≡ line-of (bad-hex-text e))
+-- why a line spells no bytes
+abbrev pub NotHex : List ℕ → List ℕ → Type 0
+NotHex line text = (e : HexFault) × Unread line e × (e ≡ Memory → ⊥) × (text ≡ line-of (bad-hex-text e))
 
+-- the answer to a line: what is told of the bytes that it spells, or why it spells none
 abbrev pub AnswerTo : List ℕ → List ℕ → Type 0
-AnswerTo line text = Answered (hex-bytes line) line text
+AnswerTo line text = ((bytes : List ℕ) × (hex-bytes line ≡ Some bytes) × Told bytes text) ⊎ NotHex line text

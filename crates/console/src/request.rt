@@ -1,5 +1,5 @@
 // What the words behind the program's name ask for.
-ghost use Rattle.std.specs.Changed.{mapped};
+ghost use Rattle.std.specs.Options.{mapped};
 ghost use Rattle.console.specs.Requests.{Asked};
 
 // A request, or the first word of what is none.

@@ -1,6 +1,6 @@
 mod Answered
 mod Standing
-mod Spelled
+pub mod Spelled
 mod Lawful
 mod PixelRecords
 mod Runs
