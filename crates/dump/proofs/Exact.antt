@@ -20,6 +20,7 @@ use Rattle.dump.specs.Reading.{Accepted, Refused, holding}
 use Rattle.dump.specs.Records.{kind-at, body-at, behind}
 use Rattle.dump.proofs.Held.{form-held, at-end}
 use Rattle.dump.proofs.Limits.{all-inside}
+use Rattle.dump.proofs.Rising.{all-rising}
 use Rattle.dump.proofs.Parsed.{Left, done, then, join, opened, ended, end-same, reads-form}
 use Rattle.dump.proofs.Parses.{form-reads}
 
@@ -110,4 +111,4 @@ refuses bytes f fails = record { fails = fails; only = λ g other. one-fault byt
 pub accepts : (bytes : List ℕ) (h : Head) → Sound Start bytes (Ended h) [] → Accepted bytes (holding h bytes)
 accepts bytes h run =
     let form = reads-form bytes h run in
-    record { form = form; only = λ d other. one-content bytes d (holding h bytes) other form; inside = all-inside bytes _ form; no-fault = λ f fails. not-both bytes f _ fails form }
+    record { form = form; only = λ d other. one-content bytes d (holding h bytes) other form; inside = all-inside bytes _ form; rising = all-rising bytes _ form; no-fault = λ f fails. not-both bytes f _ fails form }

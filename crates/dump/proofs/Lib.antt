@@ -8,4 +8,5 @@ mod Parses
 mod Held
 mod Parsed
 mod Limits
+mod Rising
 mod Exact

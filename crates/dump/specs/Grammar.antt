@@ -2,6 +2,7 @@
 use mathlib.Core.Path.{_≡_}
 use mathlib.Core.Bool.{true, cond, _&&_}
 use mathlib.Core.List.{List, [], _∷_, _++_}
+use mathlib.Core.Logic.{_⊎_}
 use Prim.Native.Nat.{ℕ, _+_, _*_, _≤_, _<_}
 use lib.Dec.{eqb}
 use lib.ListN.{length, getD, replicate}
@@ -101,3 +102,12 @@ pub record Inside (h : Head) (p : Placed) : Type 0 where
 abbrev pub AllInside : Head → List Placed → Type 0
 AllInside h [] = Unit {0}
 AllInside h (p ∷ ps) = Inside h p × AllInside h ps
+
+-- the place of p is that of pixel i of rank r, or comes later
+abbrev pub NotBefore : ℕ → ℕ → Placed → Type 0
+NotBefore r i p = (r < p .rank) ⊎ ((r ≡ p .rank) × (i ≤ p .number))
+
+-- from pixel i of rank r on the places rise, by rank and then by number, so that none comes twice
+abbrev pub Rising : ℕ → ℕ → List Placed → Type 0
+Rising r i [] = Unit {0}
+Rising r i (p ∷ ps) = NotBefore r i p × Rising (p .rank) (p .number + 1) ps

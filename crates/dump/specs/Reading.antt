@@ -5,7 +5,7 @@ use Prim.Native.Nat.{ℕ}
 use Rattle.tile.specs.declared.fault.Fault.{Fault}
 use Rattle.dump.specs.declared.dumps.Dump.{Dump}
 use Rattle.dump.specs.declared.stage.Head.{Head}
-use Rattle.dump.specs.Grammar.{AllInside, Content, HasForm}
+use Rattle.dump.specs.Grammar.{AllInside, Content, HasForm, Rising}
 use Rattle.dump.specs.Order.{Fails}
 use Rattle.dump.specs.Pixels.{left, pixels-in}
 
@@ -24,6 +24,8 @@ pub record Accepted (bytes : List ℕ) (c : Content) : Type 0 where
   pub only : (d : Content) → HasForm bytes d → d ≡ c
   -- each pixel lies within the limits of the head
   pub inside : AllInside (c .head) (c .pixels)
+  -- in order of rank and number, no place twice
+  pub rising : Rising 0 0 (c .pixels)
   -- no record is faulty
   pub no-fault : (f : Fault) → Fails bytes f → ⊥
 

@@ -4,9 +4,7 @@ use crate::cover::CoverageRecord;
 use crate::cover_kind::CoveragePixel;
 use crate::fault::Fault;
 use crate::fault::FaultDebug;
-use crate::fault::FaultPartialEq;
 use crate::fault::Ground;
-use crate::fault::unranked;
 use crate::fault_text::FaultDisplay;
 use crate::kind::Pixel;
 use crate::near::Nearest;
@@ -52,8 +50,10 @@ fn unlawful_words_are_refused() -> Result<(), Fail> {
         nearness: 1,
         colour: 2,
     }];
-    let refused = join_words::<Nearest>(&mut front, &[0, 7]);
-    check_eq(refused, Err(unranked(Ground::BadMessage)))?;
+    let Err(fault) = join_words::<Nearest>(&mut front, &[0, 7]) else {
+        return Err(Fail::new("unlawful words were joined"));
+    };
+    check_eq(fault.number(), 20)?;
     check_eq(front[0].nearness, 1)
 }
 
