@@ -58,7 +58,7 @@ fn ended(stage: Stage, left: usize) -> Option<Head>
 }
 
 // What the head tells of a dump that has the form, or the fault of the first faulty record.
-pub fn check(bytes: &[u8]) -> Result<Head, Fault>
+pub(crate) fn check(bytes: &[u8]) -> Result<Head, Fault>
     ensures { λ r. ⌜ Cases r (λ h. Accepted (now (bytes .entry)) (holding h (now (bytes .entry)))) (λ f. Refused (now (bytes .entry)) f) ⌝ }
 {
     let mut reader = Reader::new(bytes);

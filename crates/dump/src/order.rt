@@ -154,7 +154,7 @@ fn at_pixel<P: Pixel>(stage: Stage, body: &[u8]) -> Result<Stage, Ground>
 }
 
 // The stage behind a record, or the ground on which it is refused.
-pub fn admit(stage: Stage, found: Record) -> Result<Stage, Ground>
+pub(crate) fn admit(stage: Stage, found: Record) -> Result<Stage, Ground>
     requires { ⌜ length (body-of found) ≡ body-size (kind-of found) ⌝ }
     ensures { λ r. ⌜ r ≡ answered (ground stage (kind-of (found .entry)) (body-of (found .entry))) (next stage (kind-of (found .entry)) (body-of (found .entry))) ⌝ }
 {

@@ -47,7 +47,7 @@ fn inspect_file(rt: &LibcRuntime, path: &str) -> Result<(), AnyError> {
 
 // Says that the words ask for nothing.
 fn refuse(rt: &LibcRuntime, word: &str) -> Result<(), AnyError> {
-    println!(rt, "no such request: {word}; try 'tilemerge help'")?;
+    println!(rt, "no request in the words from '{word}' on; try 'tilemerge help'")?;
     Err("no such request".into())
 }
 
