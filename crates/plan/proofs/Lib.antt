@@ -1,0 +1,6 @@
+mod Complete
+pub mod Counting
+mod Factoring
+pub mod Inside
+mod Putting
+mod Telling

@@ -1,0 +1,14 @@
+pub mod Amounts
+pub mod Answers
+pub mod Examples
+pub mod Factors
+pub mod Makers
+pub mod Model
+pub mod Order
+pub mod Radix
+pub mod RadixRules
+pub mod Runs
+pub mod Shares
+pub mod Swap
+pub mod SwapRules
+pub mod Transfers
