@@ -1,0 +1,4 @@
+pub mod Layers
+pub mod Links
+pub mod Trims
+pub mod WordLaws

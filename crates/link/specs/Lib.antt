@@ -1,0 +1,5 @@
+pub mod Calls
+pub mod Echo
+pub mod Examples
+pub mod Model
+pub mod Trim
