@@ -8,6 +8,8 @@ pub enum Request<'a> {
     Help,
     InspectLines,
     InspectFile(&'a str),
+    Plan,
+    Link,
     Unknown(&'a str),
 }
 
@@ -20,6 +22,12 @@ pub fn request_of<'a>(first: Option<&'a str>, second: Option<&'a str>, more: boo
     };
     if word == "help" && second.is_none() {
         return Request::Help;
+    }
+    if word == "plan" {
+        return Request::Plan;
+    }
+    if word == "link" && second.is_none() {
+        return Request::Link;
     }
     if word != "inspect" || more {
         return Request::Unknown(word);
