@@ -203,6 +203,7 @@ for KIND in ("cell", "line"):
     TABLE += [f"link {KIND} 3 16"] + EACH.split("\n")
     TABLE += [f"link {KIND} 3 16", "layer trim", "layer trim"] + EACH.split("\n")
     TABLE += [f"link {KIND} 3 16"] + SPOIL.split("\n")
+    TABLE += [f"link {KIND} 3 16"] + SPOIL.replace("layer trim", "layer trim\nlayer trim").split("\n")
     TABLE += [f"link {KIND} 3 2", "layer trim", "send 0 1 1", "waiting 0 1", "layer trim", "send 0 1 1", "clear 0 1"]
     TABLE += [f"link {KIND} 0 5", "send 0 1 1", f"link {KIND} 33 5", "send 0 1 1", f"link {KIND} 2 0", "send 0 1 1", f"link {KIND} 2 5201", "send 0 1 1"]
     TABLE += [f"link {KIND} 32 5200", "send 31 30 1 2", "read 31 30", "waiting 30 31"]
