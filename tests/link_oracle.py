@@ -1,5 +1,5 @@
 #!/usr/bin/env python3
-"""A second, independent reading of docs/RULES.md on links: what `tilemerge link` must answer.
+"""A second reading, sharing no code with the program, of docs/RULES.md on links: what `tilemerge link` must answer.
 
   link_oracle.py answer      answers each line of standard input, as `tilemerge link` does
   link_oracle.py table       prints the table of calls that the program is run on (crates/link_cases/stdin)

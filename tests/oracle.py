@@ -1,5 +1,5 @@
 #!/usr/bin/env python3
-"""A second, independent reading of docs/FORMATS.md and docs/REFUSALS.md: what `tilemerge inspect` must answer.
+"""A second reading, sharing no code with the program, of docs/FORMATS.md and docs/REFUSALS.md: what `tilemerge inspect` must answer.
 
   oracle.py answer         answers each line of standard input, as `tilemerge inspect` does
   oracle.py table          prints the table of cases that the program is run on (crates/tilemerge/stdin)

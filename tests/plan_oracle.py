@@ -1,5 +1,5 @@
 #!/usr/bin/env python3
-"""A second, independent reading of docs/RULES.md on plans: what `tilemerge plan` must answer.
+"""A second reading, sharing no code with the program, of docs/RULES.md on plans: what `tilemerge plan` must answer.
 
   plan_oracle.py answer    answers each line of standard input, as `tilemerge plan` does (transfers sorted by round, sender, receiver)
   plan_oracle.py table     prints the table of requests that the program is run on (crates/plan_cases/stdin)
