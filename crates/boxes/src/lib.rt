@@ -1,4 +1,6 @@
 // Links that keep their boxes in lent words.
+#![tactic(auto)]
+
 pub mod cell;
 pub mod cell_link;
 mod entries;

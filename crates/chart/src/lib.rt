@@ -1,3 +1,5 @@
 // Plans as lines of text and as a picture.
+#![tactic(auto)]
+
 pub mod lines;
 pub mod picture;

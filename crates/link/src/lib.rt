@@ -1,4 +1,6 @@
 // Links: boxes for messages between ranks, and layers on any link.
+#![tactic(auto)]
+
 ghost use Rattle.std.specs.Prelude.{◌≡◌};
 ghost use Rattle.link.specs.Calls.{Send, Read, Clear, Waiting};
 ghost use Rattle.link.specs.Model.{LinkModel, LinkLaws};

@@ -1,4 +1,6 @@
 // Runs `tilemerge link` on a table of calls.
+#![tactic(auto)]
+
 use commands::links::link_lines;
 
 fn main(rt: HostRuntime) -> anyhow::Result<()> {

@@ -1,4 +1,6 @@
 // Plans: who merges what with whom, round by round.
+#![tactic(auto)]
+
 pub mod examples;
 mod limits;
 mod parts;

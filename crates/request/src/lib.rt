@@ -1,4 +1,6 @@
 // Requests: the words of a line, the numbers among them, and what they ask for.
+#![tactic(auto)]
+
 pub mod links;
 mod names;
 pub mod numbers;

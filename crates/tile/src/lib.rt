@@ -1,4 +1,6 @@
 // Faults, pixel kinds, and rows of pixels of any kind.
+#![tactic(auto)]
+
 pub mod cover;
 pub mod cover_kind;
 pub mod examples;

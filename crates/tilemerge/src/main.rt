@@ -1,4 +1,6 @@
 // The program: asks the library, and prints what it answers.
+#![tactic(auto)]
+
 use anyhow::anyhow;
 use commands::inspects::{inspect_file, inspect_lines};
 use commands::links::link_lines;

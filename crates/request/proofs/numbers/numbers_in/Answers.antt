@@ -24,11 +24,11 @@ loop-cut-preserved c =
     c.loop-cut.invariant
     _
     (words_in c.in-Some.cut.rest.now)
-    c.in-Some-number-of.value
+    c.in-Some-number_of.value
     (vec_items c.push.new.self)
     c.in-Some.ensures.0
-    c.in-Some-number-of.ensures
-    c.in-ok-push.ensures.items
+    c.in-Some-number_of.ensures
+    c.in_ok-push.ensures.items
 
 pub returns : goal.returns
-returns c = all-numbers _ (vec_items c.loop-cut.values) (words_in c.loop-cut.left.now) c.loop-cut.invariant c.in-default.ensures
+returns c = all-numbers _ (vec_items c.loop-cut.values) (words_in c.loop-cut.left.now) c.loop-cut.invariant c.in_default.ensures

@@ -17,8 +17,8 @@ slice-bounds-from-word-start c = omega (arith, run-within is_space c.args.text.n
 pub returns-then-end-eq0 : goal.returns-then-end-eq0
 returns-then-end-eq0 c =
     let text = c.args.text.now in
-    let at = behind text c.leading-spaces.result c.leading-spaces.ensures in
-    no_word text (sym (ap (run is_letter) at) ∙ sym c.leading-letters-end.ensures ∙ c.if-end-eq0.true)
+    let at = behind text c.leading_spaces.result c.leading_spaces.ensures in
+    no_word text (sym (ap (run is_letter) at) ∙ sym c.leading_letters-end.ensures ∙ c.if-end-eq0.true)
 
 pub slice-bounds-word-end : goal.slice-bounds-word-end
 slice-bounds-word-end c =
@@ -34,6 +34,6 @@ slice-bounds-rest-start c = omega (arith, run-within is_letter (from c.args.text
 pub returns : goal.returns
 returns c =
     let text = c.args.text.now in
-    let s = c.leading-spaces.result in
-    let n = c.leading-letters-end.result in
-    first_word text (from text s) _ _ n (behind text s c.leading-spaces.ensures) c.leading-letters-end.ensures c.if-end-eq0.false refl (take_rest (from text s) n)
+    let s = c.leading_spaces.result in
+    let n = c.leading_letters-end.result in
+    first_word text (from text s) _ _ n (behind text s c.leading_spaces.ensures) c.leading_letters-end.ensures c.if-end-eq0.false refl (take_rest (from text s) n)

@@ -8,7 +8,7 @@ pub returns-then-is-space : goal.returns-then-is-space
 returns-then-is-space c = run_stops is_letter c.args.text.now c.loop-i.i c.loop-i-test.true (not_from_true _ (sym c.if-is-space.ensures)) c.loop-i.invariant
 
 pub loop-i-preserved : goal.loop-i-preserved
-loop-i-preserved c = run_more is_letter c.args.text.now c.loop-i.i c.loop-i-test.true (not_from_false _ (sym c.if-is-space.ensures)) c.loop-i.invariant
+loop-i-preserved c = run_more is_letter c.args.text.now c.loop-i.i c.loop-i-test.true (not_from_false _ (sym c.if-is_space.ensures)) c.loop-i.invariant
 
 pub returns : goal.returns
 returns c = run-all is_letter c.args.text.now c.loop-i.i c.loop-i-test.false c.loop-i.auto.i-end c.loop-i.invariant

@@ -7,7 +7,7 @@ pub returns-then-not-is-space : goal.returns-then-not-is-space
 returns-then-not-is-space c = run_stops is_space c.args.text.now c.loop-i.i c.loop-i-test.true (sym c.if-not-is-space.ensures) c.loop-i.invariant
 
 pub loop-i-preserved : goal.loop-i-preserved
-loop-i-preserved c = run_more is_space c.args.text.now c.loop-i.i c.loop-i-test.true (sym c.if-not-is-space.ensures) c.loop-i.invariant
+loop-i-preserved c = run_more is_space c.args.text.now c.loop-i.i c.loop-i-test.true (sym c.if-not-is_space.ensures) c.loop-i.invariant
 
 pub returns : goal.returns
 returns c = run-all is_space c.args.text.now c.loop-i.i c.loop-i-test.false c.loop-i.auto.i-end c.loop-i.invariant

@@ -4,7 +4,7 @@ use Rattle.tile.specs.Rows.{picture}
 use Rattle.tile.proofs.RowLaws.{row_room, joined_row, zipped-more, zipped-all, picture-read, read-part}
 use Rattle.tile.proofs.rows.join_words.Given as given
 use Rattle.tile.proofs.rows.join_words.Goals as goal
-use Rattle.tile.proofs.rows.join_words.Goals.{in-Some, in-default}
+use Rattle.tile.proofs.rows.join_words.Goals.{in-Some, in_default}
 
 -- the part of pixel i lies within the words
 fits : (g : given.Over) (c : goal.In-loop-i g) → c.loop-i.i * c.width-width.result + c.width-width.result ≤ length c.args.words.now
@@ -41,18 +41,18 @@ loop-i-preserved g c ps e n =
     elim c.match-read.branch [
       | in-Some t ↦
           let under = t.in-Some.under in
-          let over = t.from-record.result in
+          let over = t.from_record.result in
           let got : Some under ≡ Some (get_or ps i under) = t.in-Some.ensures ∙ ap m.reads part ∙ read-part m laws ws ps i under there e in
           let under-is : under ≡ get_or ps i under = cc in
-          let written = ap m.meaning t.to-record.ensures ∙ laws.meaning-plain t.join.result ∙ t.join.ensures in
+          let written = ap m.meaning t.to_record.ensures ∙ laws.meaning-plain t.join.result ∙ t.join.ensures in
           ap (picture m) t.front-is
-          ∙ map-set m.meaning c.loop-i.front i t.to-record.result
+          ∙ map-set m.meaning c.loop-i.front i t.to_record.result
           ∙ ap (set (picture m c.loop-i.front) i) written
           ∙ zipped-more m.join (picture m front) ps (picture m c.loop-i.front) i over under
           (omega arith) (omega arith) (c.loop-i.invariant ps e n)
-          (picture-read m c.loop-i.front i t.index-front-i.result over here t.index-front-i.is t.from-record.ensures)
+          (picture-read m c.loop-i.front i t.index-front-i.result over here t.index-front-i.is t.from_record.ensures)
           under-is
-      | in-default t ↦
+      | in_default t ↦
           let d = m.blank in
           let got : None ≡ Some (get_or ps i d) = t.in-default.ensures ∙ ap m.reads part ∙ read-part m laws ws ps i d there e in
           let z : ◌≡◌ {A = ℕ} 0 1 = cc in
@@ -66,5 +66,5 @@ returns g c =
     let front = c.args.front.now in
     let nF : length (picture m front) ≡ length front = length-map front m.meaning in
     joined_row m g.met.P.Pixel.lawful front c.loop-i.front c.args.words.now
-    (sym c.is-row.ensures ∙ c.if-not-is-row.false)
+    (sym c.is_row.ensures ∙ c.if-not-is_row.false)
     (λ ps e n. c.loop-i.invariant ps e n ∙ zipped-all m.join (picture m front) ps c.loop-i.i (omega arith) (omega arith))
