@@ -11,7 +11,7 @@ loop-i-preserved c =
     let ds = c.args.values.now in
     let i = c.loop-i.i in
     pair_more ds (vec_items c.loop-i.bytes) i (omega arith) c.loop-i.invariant
-    ∙ ap (λ (ys : List ℕ). prepend ys (paired (drop (2 * (i + 1)) ds))) (sym c.in-ok-push.ensures.items)
+    ∙ ap (λ (ys : List ℕ). prepend ys (paired (drop (2 * (i + 1)) ds))) (sym c.in_ok-push.ensures.items)
 
 pub returns : goal.returns
 returns c = all-paired c.args.values.now (vec_items c.loop-i.bytes) c.loop-i.i (omega arith) c.loop-i.invariant

@@ -9,4 +9,4 @@ pub returns-in-NoDigit : goal.returns-in-NoDigit
 returns-in-NoDigit c = IfOk-weaker c.format.result _ _ (λ s e. e ∙ ap (λ (f : HexFault). line_of (bad_hex_text f)) (sym c.in-NoDigit.is)) c.format.ensures.ok
 
 pub returns-in-OddDigit : goal.returns-in-OddDigit
-returns-in-OddDigit c = IfOk-weaker c.from-str.result _ _ (λ s e. e ∙ ap (λ (f : HexFault). line_of (bad_hex_text f)) (sym c.in-OddDigit.is)) c.from-str.ensures.ok
+returns-in-OddDigit c = IfOk-weaker c.from_str.result _ _ (λ s e. e ∙ ap (λ (f : HexFault). line_of (bad_hex_text f)) (sym c.in-OddDigit.is)) c.from_str.ensures.ok

@@ -9,7 +9,7 @@ loop-pixel-preserved c =
     let text = string_bytes c.loop-pixel.text in
     let rest = pixel_lines (left c.next.new.self) in
     let here = shown_pixel (item c.in-Some.pixel) in
-    let added = c.in-ok-push-str.ensures.bytes ∙ ap (λ (l : List ℕ). text ++ l) (c.as-str.ensures.value ∙ c.in-ok-line-of-pixel.ensures) in
+    let added = c.in_ok-push_str.ensures.bytes ∙ ap (λ (l : List ℕ). text ++ l) (c.as_str.ensures.value ∙ c.in_ok-line_of_pixel.ensures) in
     ap (λ (l : List ℕ). l ++ rest) added
     ∙ append_assoc text here rest
     ∙ ap (λ (ps : List Placed). text ++ pixel_lines ps) (sym c.in-Some.ensures.0)

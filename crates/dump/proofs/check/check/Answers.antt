@@ -43,14 +43,14 @@ returns-in-Err c =
     let inv = c.records.invariant in
     let at = c.records.reader.at in
     let none-there = ap (λ (b : List ℕ). no_record (drop at b)) (sym inv.0) ∙ c.in-Err.ensures.read.0 in
-    refused-at c.args.bytes.now at c.records.stage c.in-Err.ground _ inv.1 inv.2 c.in-default.ensures (refusal-missing _ _ _ none-there) c.fault-at.ensures
+    refused-at c.args.bytes.now at c.records.stage c.in-Err.ground _ inv.1 inv.2 c.in_default.ensures (refusal-missing _ _ _ none-there) c.fault_at.ensures
 
 pub returns-in-Err-admit : goal.returns-in-Err-admit
 returns-in-Err-admit c =
     let inv = c.records.invariant in
     let at = c.records.reader.at in
     let stands = subst (λ (b : List ℕ). Stands b at c.in-Ok.item c.next.new.self.at) inv.0 c.in-Ok.ensures.read in
-    refused-at c.args.bytes.now at c.records.stage c.in-Err-admit.ground _ inv.1 inv.2 c.in-default.ensures (refusal-there stands.leads _ ∙ err_told _ _ _ c.in-Err-admit.ensures) c.fault-at-in-Err-admit.ensures
+    refused-at c.args.bytes.now at c.records.stage c.in-Err-admit.ground _ inv.1 inv.2 c.in_default.ensures (refusal-there stands.leads _ ∙ err_told _ _ _ c.in-Err-admit.ensures) c.fault_at-in-Err-admit.ensures
 
 pub records-preserved : goal.records-preserved
 records-preserved c =

@@ -16,7 +16,7 @@ size-at f g e size = ap (λ (r : Record). length (body_of r)) (sym e) ∙ size �
 
 pub returns-in-Head : goal.returns-in-Head
 unfolding ground
-returns-in-Head c = c.at-head.ensures ∙ ap (told c.args.stage) (sym c.in-Head.is)
+returns-in-Head c = c.at_head.ensures ∙ ap (told c.args.stage) (sym c.in-Head.is)
 
 pub returns-in-Rank : goal.returns-in-Rank
 unfolding ground
@@ -24,7 +24,7 @@ returns-in-Rank c = c.at_rank.ensures ∙ ap (told c.args.stage) (sym c.in-Rank.
 
 pub returns-in-Place : goal.returns-in-Place
 unfolding ground
-returns-in-Place c = c.at-place.ensures ∙ ap (told c.args.stage) (sym c.in-Place.is)
+returns-in-Place c = c.at_place.ensures ∙ ap (told c.args.stage) (sym c.in-Place.is)
 
 pub returns-in-Near : goal.returns-in-Near
 returns-in-Near c =
@@ -33,7 +33,7 @@ returns-in-Near c =
 
 pub returns-in-Cover : goal.returns-in-Cover
 returns-in-Cover c =
-    admitted 5 cover_acts c.args.stage c.in-Cover.body.now c.at-pixel-in-Cover.result (size-at _ _ c.in-Cover.is c.requires) c.at-pixel-in-Cover.ensures
+    admitted 5 cover_acts c.args.stage c.in-Cover.body.now c.at_pixel-in-Cover.result (size-at _ _ c.in-Cover.is c.requires) c.at_pixel-in-Cover.ensures
     ∙ ap (told c.args.stage) (sym c.in-Cover.is)
 
 pub returns-in-End : goal.returns-in-End

@@ -11,4 +11,4 @@ returns c =
     let body = c.args.body.now in
     let i = c.args.index in
     let long = length-words_in body in
-    ap Some (c.word-at.ensures ∙ sym (word_in body i (omega arith))) ∙ some_word (words_in body) i (omega arith)
+    ap Some (c.word_at.ensures ∙ sym (word_in body i (omega arith))) ∙ some_word (words_in body) i (omega arith)

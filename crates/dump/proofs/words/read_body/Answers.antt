@@ -8,10 +8,10 @@ pub returns-then-body : goal.returns-then-body
 returns-then-body g c =
     let body = c.args.body.now in
     let long = lt-leb (length body) 20 (omega arith) in
-    record { value = sym (cond-false _ _ _ long); words = words_fit body (λ i. omega (arith, c.type-inv.body i)) }
+    record { value = sym (cond-false _ _ _ long); words = words_fit body (λ i. omega (arith, c.type_inv.body i)) }
 
 pub returns : goal.returns
 returns g c =
     let body = c.args.body.now in
     let fits = le-leb (length body) 20 (omega arith) in
-    record { value = c.read.ensures ∙ ap g.P.Pixel.model.reads c.spelled-words.ensures.words ∙ sym (cond-true _ _ _ fits); words = words_fit body (λ i. omega (arith, c.type-inv.body i)) }
+    record { value = c.read.ensures ∙ ap g.P.Pixel.model.reads c.spelled-words.ensures.words ∙ sym (cond-true _ _ _ fits); words = words_fit body (λ i. omega (arith, c.type_inv.body i)) }

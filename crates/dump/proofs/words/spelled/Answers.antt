@@ -12,8 +12,8 @@ loop-i-preserved c =
     let inv = c.loop-i.invariant in
     let ws = c.loop-i.words in
     let i = c.loop-i.i in
-    let v = c.word-at.result in
-    (length-set ws i v ∙ inv.0, spelled-more c.args.body.now ws i v (omega arith) (omega arith) inv.1 c.word-at.ensures)
+    let v = c.word_at.result in
+    (length-set ws i v ∙ inv.0, spelled-more c.args.body.now ws i v (omega arith) (omega arith) inv.1 c.word_at.ensures)
 
 pub returns : goal.returns
 returns c =

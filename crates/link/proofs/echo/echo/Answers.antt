@@ -47,16 +47,16 @@ module _ (m n : LinkModel) (from to : ℕ) (words : List ℕ) (u : Unit {0}) (s 
       let z : ◌≡◌ {A = ℕ} 0 1 = cc in
       omega arith
 
-pub returns-in-err-send : goal.returns-in-err-send
-returns-in-err-send g c =
-    let p = err_from_is_err_and c.from-residual.result c.from-residual.ensures.1 in
-    rw (p.1, p.2) (unsent _ _ _ _ _ _ _ c.in-err-send.ensures)
+pub returns-in_err-send : goal.returns-in_err-send
+returns-in_err-send g c =
+    let p = err_from_is_err_and c.from_residual.result c.from_residual.ensures.1 in
+    rw (p.1, p.2) (unsent _ _ _ _ _ _ _ c.in_err-send.ensures)
 
-pub returns-in-err-count : goal.returns-in-err-count
-returns-in-err-count g c =
-    let p = err_from_is_err_and c.from-residual-in-err-count.result c.from-residual-in-err-count.ensures.1 in
-    rw (p.1, p.2) (unread _ _ _ _ _ _ c.in-ok-send.ensures _ _ _ _ c.in-err-count.ensures)
+pub returns-in_err-count : goal.returns-in_err-count
+returns-in_err-count g c =
+    let p = err_from_is_err_and c.from_residual-in_err-count.result c.from_residual-in_err-count.ensures.1 in
+    rw (p.1, p.2) (unread _ _ _ _ _ _ c.in_ok-send.ensures _ _ _ _ c.in_err-count.ensures)
 
-pub returns-in-err-clear : goal.returns-in-err-clear
-returns-in-err-clear g c =
-    absurd (uncleared _ _ _ _ _ _ c.in-ok-send.ensures _ _ _ _ _ _ c.in-ok-count.ensures c.in-err-clear.ensures)
+pub returns-in_err-clear : goal.returns-in_err-clear
+returns-in_err-clear g c =
+    absurd (uncleared _ _ _ _ _ _ c.in_ok-send.ensures _ _ _ _ _ _ c.in_ok-count.ensures c.in_err-clear.ensures)

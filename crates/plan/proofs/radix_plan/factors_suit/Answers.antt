@@ -17,8 +17,8 @@ returns-then-k-lt2 c =
           elim c.then-k-lt2.branch [ then-k-lt2-via-then-k-lt2 w ↦ omega arith | then-k-lt2-via-else-k-lt2+then-k-gt32 w ↦ omega arith ];
     }
 
-pub overflow-mul-product : goal.overflow-mul-product
-overflow-mul-product c =
+pub overflow_mul-product : goal.overflow_mul-product
+overflow_mul-product c =
     let k = get_or c.args.factors.now c.loop-k.k-index 0 in
     let up = grows c.loop-k.product k c.loop-k.k-index c.loop-k.invariant.2 c.if-k-gt32.false in
     let fits = small (c.loop-k.product * k) (c.loop-k.k-index + 1) up (omega arith) in

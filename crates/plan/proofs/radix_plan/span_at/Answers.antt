@@ -8,11 +8,11 @@ pub loop-i-init : goal.loop-i-init
 unfolding span
 loop-i-init c = (refl, refl)
 
-pub nonzero-div-rank : goal.nonzero-div-rank
-nonzero-div-rank c = let w = some c.args.plan.now c.loop-i.width c.loop-i.i c.loop-i.invariant.0 in omega arith
+pub nonzero_div-rank : goal.nonzero_div-rank
+nonzero_div-rank c = let w = some c.args.plan.now c.loop-i.width c.loop-i.i c.loop-i.invariant.0 in omega arith
 
-pub nonzero-rem-rank : goal.nonzero-rem-rank
-nonzero-rem-rank c = let l = lawful c.args.plan.now c.loop-i.i (omega arith) in omega arith
+pub nonzero_rem-rank : goal.nonzero_rem-rank
+nonzero_rem-rank c = let l = lawful c.args.plan.now c.loop-i.i (omega arith) in omega arith
 
 pub part-piece-requires : goal.part-piece-requires
 part-piece-requires c =
@@ -20,8 +20,8 @@ part-piece-requires c =
     let s = short c.args.plan.now (run_of c.loop-i.start c.loop-i.len) c.loop-i.i c.args.rank c.loop-i.invariant.1 in
     (mod-lt (c.args.rank / c.loop-i.width) (omega arith), l.1, omega arith)
 
-pub overflow-add-start : goal.overflow-add-start
-overflow-add-start c =
+pub overflow_add-start : goal.overflow_add-start
+overflow_add-start c =
     let k = get_or c.args.plan.now.factors c.loop-i.i 0 in
     let l = lawful c.args.plan.now c.loop-i.i (omega arith) in
     let s = short c.args.plan.now (run_of c.loop-i.start c.loop-i.len) c.loop-i.i c.args.rank c.loop-i.invariant.1 in
@@ -29,8 +29,8 @@ overflow-add-start c =
     let le = part_le c.loop-i.len k (c.args.rank / c.loop-i.width % k) d in
     omega (arith, ap (λ x. x.start) c.part-piece.ensures)
 
-pub overflow-mul-width : goal.overflow-mul-width
-overflow-mul-width c = let le = wider_le c.args.plan.now c.loop-i.i (omega arith) c.loop-i.width c.loop-i.invariant.0 in omega arith
+pub overflow_mul-width : goal.overflow_mul-width
+overflow_mul-width c = let le = wider_le c.args.plan.now c.loop-i.i (omega arith) c.loop-i.width c.loop-i.invariant.0 in omega arith
 
 pub loop-i-preserved : goal.loop-i-preserved
 loop-i-preserved c =

@@ -8,7 +8,7 @@ pub returns : goal.returns
 returns c =
     let R = c.args.ranks in
     let t = c.min.result in
-    let e : t ≡ min c.args.round (top 5 R) = c.min.ensures ∙ ap (min c.args.round) c.top-round.ensures in
+    let e : t ≡ min c.args.round (top 5 R) = c.min.ensures ∙ ap (min c.args.round) c.top_round.ensures in
     let some = pow_pos t in
     let last = min-le_right c.args.round (top 5 R) in
     let le = width_le R 1 c.requires t (omega arith) in

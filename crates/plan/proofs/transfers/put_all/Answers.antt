@@ -7,8 +7,8 @@ use Rattle.plan.proofs.transfers.put_all.Goals as goal
 pub loop-round-init : goal.loop-round-init
 loop-round-init g c = put_none 0 c.args.area.now
 
-pub put-round-next-requires : goal.put-round-next-requires
-put-round-next-requires g c =
+pub put_round-next-requires : goal.put_round-next-requires
+put_round-next-requires g c =
     let m = g.P.Plan.model c.args.plan.now in
     let end = c.rounds-round-end.ensures in
     let few = up_to-short (in_round m) 1024 c.loop-round.round (λ j h. round_short m j (omega arith)) in
@@ -19,7 +19,7 @@ put-round-next-requires g c =
 pub loop-round-preserved : goal.loop-round-preserved
 loop-round-preserved g c =
     let m = g.P.Plan.model c.args.plan.now in
-    put_turn (in_round m) c.loop-round.round 0 c.loop-round.next c.put-round-next.result c.args.area.now c.loop-round.area c.put-round-next.new.area c.loop-round.auto.area c.loop-round.invariant c.put-round-next.ensures
+    put_turn (in_round m) c.loop-round.round 0 c.loop-round.next c.put_round-next.result c.args.area.now c.loop-round.area c.put_round-next.new.area c.loop-round.auto.area c.loop-round.invariant c.put_round-next.ensures
 
 pub returns : goal.returns
 returns g c =

@@ -6,8 +6,8 @@ use Rattle.plan.proofs.transfers.put_round.Goals as goal
 pub loop-sender-init : goal.loop-sender-init
 loop-sender-init g c = put_none c.args.place c.args.area.now
 
-pub put-from-next-requires : goal.put-from-next-requires
-put-from-next-requires g c =
+pub put_from-next-requires : goal.put_from-next-requires
+put_from-next-requires g c =
     let m = g.P.Plan.model c.args.plan.now in
     let end = c.ranks-sender-end.ensures in
     let few = up_to-short (from m c.args.round) 32 c.loop-sender.sender (λ j h. from-short m c.args.round c.requires.0 j (omega arith)) in
@@ -18,7 +18,7 @@ put-from-next-requires g c =
 pub loop-sender-preserved : goal.loop-sender-preserved
 loop-sender-preserved g c =
     let m = g.P.Plan.model c.args.plan.now in
-    put_turn (from m c.args.round) c.loop-sender.sender c.args.place c.loop-sender.next c.put-from-next.result c.args.area.now c.loop-sender.area c.put-from-next.new.area c.loop-sender.auto.area c.loop-sender.invariant c.put-from-next.ensures
+    put_turn (from m c.args.round) c.loop-sender.sender c.args.place c.loop-sender.next c.put_from-next.result c.args.area.now c.loop-sender.area c.put_from-next.new.area c.loop-sender.auto.area c.loop-sender.invariant c.put_from-next.ensures
 
 pub returns : goal.returns
 returns g c =

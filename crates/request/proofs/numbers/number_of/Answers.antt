@@ -3,8 +3,8 @@ use Rattle.request.specs.Numbers.{number_on}
 use Rattle.request.proofs.Decimals.{all_read, digit-more, no_digit, too_large}
 use Rattle.request.proofs.numbers.number_of.Goals as goal
 
-pub returns-then-not-is-ascii-digit : goal.returns-then-not-is-ascii-digit
-returns-then-not-is-ascii-digit c = sym (c.loop-c.invariant.0 ∙ no_digit c.args.word.now c.loop-c.value c.loop-c.c-index c.loop-c-test.true (sym c.if-not-is-ascii-digit.ensures.value))
+pub returns-then-not-is_ascii_digit : goal.returns-then-not-is_ascii_digit
+returns-then-not-is_ascii_digit c = sym (c.loop-c.invariant.0 ∙ no_digit c.args.word.now c.loop-c.value c.loop-c.c-index c.loop-c-test.true (sym c.if-not-is_ascii_digit.ensures.value))
 
 pub returns-then-next-from : goal.returns-then-next-from
 returns-then-next-from c =

@@ -9,8 +9,8 @@ loop-cut-init c =
     let all = numbers (words_in c.args.text.now) in
     prepend-none all ∙ ap (λ (ys : List ℕ). prepend ys all) (sym c.new-values.ensures.items)
 
-pub returns-in-default-number-of : goal.returns-in-default-number-of
-returns-in-default-number-of c = no_number _ (vec_items c.loop-cut.values) (words_in c.loop-cut.left.now) c.loop-cut.invariant _ _ c.in-Some.ensures.0 c.in-default-number-of.ensures
+pub returns-in_default-number_of : goal.returns-in_default-number_of
+returns-in_default-number_of c = no_number _ (vec_items c.loop-cut.values) (words_in c.loop-cut.left.now) c.loop-cut.invariant _ _ c.in-Some.ensures.0 c.in_default-number_of.ensures
 
 pub loop-cut-smaller : goal.loop-cut-smaller
 loop-cut-smaller c = c.in-Some.ensures.1

@@ -8,11 +8,11 @@ use Rattle.request.proofs.words.first_word.Goals as goal
 abbrev from : List ℕ → ℕ → List ℕ
 from text s = take (length text - s) (drop s text)
 
-pub slice-bounds-from-word-count : goal.slice-bounds-from-word-count
-slice-bounds-from-word-count c = omega (arith, run-within is_space c.args.text.now)
+pub slice_bounds-from_word-count : goal.slice_bounds-from_word-count
+slice_bounds-from_word-count c = omega (arith, run-within is_space c.args.text.now)
 
-pub slice-bounds-from-word-start : goal.slice-bounds-from-word-start
-slice-bounds-from-word-start c = omega (arith, run-within is_space c.args.text.now)
+pub slice_bounds-from_word-start : goal.slice_bounds-from_word-start
+slice_bounds-from_word-start c = omega (arith, run-within is_space c.args.text.now)
 
 pub returns-then-end-eq0 : goal.returns-then-end-eq0
 returns-then-end-eq0 c =
@@ -20,16 +20,16 @@ returns-then-end-eq0 c =
     let at = behind text c.leading_spaces.result c.leading_spaces.ensures in
     no_word text (sym (ap (run is_letter) at) ∙ sym c.leading_letters-end.ensures ∙ c.if-end-eq0.true)
 
-pub slice-bounds-word-end : goal.slice-bounds-word-end
-slice-bounds-word-end c =
-    let rest = from c.args.text.now c.leading-spaces.result in
-    sym (length-take-le c.leading-letters-end.result rest (omega (arith, run-within is_letter rest)))
+pub slice_bounds-word-end : goal.slice_bounds-word-end
+slice_bounds-word-end c =
+    let rest = from c.args.text.now c.leading_spaces.result in
+    sym (length-take-le c.leading_letters-end.result rest (omega (arith, run-within is_letter rest)))
 
-pub slice-bounds-rest-count : goal.slice-bounds-rest-count
-slice-bounds-rest-count c = omega (arith, run-within is_letter (from c.args.text.now c.leading-spaces.result))
+pub slice_bounds-rest-count : goal.slice_bounds-rest-count
+slice_bounds-rest-count c = omega (arith, run-within is_letter (from c.args.text.now c.leading_spaces.result))
 
-pub slice-bounds-rest-start : goal.slice-bounds-rest-start
-slice-bounds-rest-start c = omega (arith, run-within is_letter (from c.args.text.now c.leading-spaces.result))
+pub slice_bounds-rest-start : goal.slice_bounds-rest-start
+slice_bounds-rest-start c = omega (arith, run-within is_letter (from c.args.text.now c.leading_spaces.result))
 
 pub returns : goal.returns
 returns c =

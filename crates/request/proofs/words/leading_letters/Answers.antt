@@ -4,8 +4,8 @@ use Rattle.request.specs.Words.{is_letter}
 use Rattle.request.proofs.Cuts.{run_more, run_stops, run-all}
 use Rattle.request.proofs.words.leading_letters.Goals as goal
 
-pub returns-then-is-space : goal.returns-then-is-space
-returns-then-is-space c = run_stops is_letter c.args.text.now c.loop-i.i c.loop-i-test.true (not_from_true _ (sym c.if-is-space.ensures)) c.loop-i.invariant
+pub returns-then-is_space : goal.returns-then-is_space
+returns-then-is_space c = run_stops is_letter c.args.text.now c.loop-i.i c.loop-i-test.true (not_from_true _ (sym c.if-is_space.ensures)) c.loop-i.invariant
 
 pub loop-i-preserved : goal.loop-i-preserved
 loop-i-preserved c = run_more is_letter c.args.text.now c.loop-i.i c.loop-i-test.true (not_from_false _ (sym c.if-is_space.ensures)) c.loop-i.invariant

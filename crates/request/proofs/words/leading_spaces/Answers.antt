@@ -3,8 +3,8 @@ use Rattle.request.specs.Words.{is_space}
 use Rattle.request.proofs.Cuts.{run_more, run_stops, run-all}
 use Rattle.request.proofs.words.leading_spaces.Goals as goal
 
-pub returns-then-not-is-space : goal.returns-then-not-is-space
-returns-then-not-is-space c = run_stops is_space c.args.text.now c.loop-i.i c.loop-i-test.true (sym c.if-not-is-space.ensures) c.loop-i.invariant
+pub returns-then-not-is_space : goal.returns-then-not-is_space
+returns-then-not-is_space c = run_stops is_space c.args.text.now c.loop-i.i c.loop-i-test.true (sym c.if-not-is_space.ensures) c.loop-i.invariant
 
 pub loop-i-preserved : goal.loop-i-preserved
 loop-i-preserved c = run_more is_space c.args.text.now c.loop-i.i c.loop-i-test.true (sym c.if-not-is_space.ensures) c.loop-i.invariant

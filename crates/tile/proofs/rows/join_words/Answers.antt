@@ -10,19 +10,19 @@ use Rattle.tile.proofs.rows.join_words.Goals.{in-Some, in_default}
 fits : (g : given.Over) (c : goal.In-loop-i g) → c.loop-i.i * c.width-width.result + c.width-width.result ≤ length c.args.words.now
 fits g c =
     row_room g.P.Pixel.model g.met.P.Pixel.lawful (length c.args.front.now) c.args.words.now c.loop-i.i c.width-width.result
-    c.width-width.ensures (sym c.is-row.ensures ∙ c.if-not-is-row.false) c.loop-i-test.true
+    c.width-width.ensures (sym c.is_row.ensures ∙ c.if-not-is_row.false) c.loop-i-test.true
 
-pub overflow-mul-at : goal.overflow-mul-at
-overflow-mul-at g c = omega (arith, fits g c)
+pub overflow_mul-at : goal.overflow_mul-at
+overflow_mul-at g c = omega (arith, fits g c)
 
-pub overflow-add-at : goal.overflow-add-at
-overflow-add-at g c = omega (arith, fits g c)
+pub overflow_add-at : goal.overflow_add-at
+overflow_add-at g c = omega (arith, fits g c)
 
-pub offset-bounds-words-at : goal.offset-bounds-words-at
-offset-bounds-words-at g c = omega (arith, fits g c)
+pub offset_bounds-words-at : goal.offset_bounds-words-at
+offset_bounds-words-at g c = omega (arith, fits g c)
 
-pub slice-bounds-read-end : goal.slice-bounds-read-end
-slice-bounds-read-end g c = omega (arith, fits g c)
+pub slice_bounds-read-end : goal.slice_bounds-read-end
+slice_bounds-read-end g c = omega (arith, fits g c)
 
 pub loop-i-preserved : goal.loop-i-preserved
 loop-i-preserved g c ps e n =
@@ -54,7 +54,7 @@ loop-i-preserved g c ps e n =
           under-is
       | in_default t ↦
           let d = m.blank in
-          let got : None ≡ Some (get_or ps i d) = t.in-default.ensures ∙ ap m.reads part ∙ read-part m laws ws ps i d there e in
+          let got : None ≡ Some (get_or ps i d) = t.in_default.ensures ∙ ap m.reads part ∙ read-part m laws ws ps i d there e in
           let z : ◌≡◌ {A = ℕ} 0 1 = cc in
           let none : ⊥ = omega arith in
           absurd none

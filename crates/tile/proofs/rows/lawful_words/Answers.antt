@@ -12,20 +12,20 @@ returns-then-words-width-ne0 g c =
     not_even m g.met.P.Pixel.lawful ws
     (λ e. c.if-words-width-ne0.true (ap (λ n. length ws % n) c.width-width.ensures ∙ e))
 
-pub overflow-mul-at : goal.overflow-mul-at
-overflow-mul-at g c = omega (arith, part-fits c.loop-i.i (length c.args.words.now / c.width-width.result) c.width-width.result (length c.args.words.now) c.loop-i-test.true (omega arith))
+pub overflow_mul-at : goal.overflow_mul-at
+overflow_mul-at g c = omega (arith, part-fits c.loop-i.i (length c.args.words.now / c.width-width.result) c.width-width.result (length c.args.words.now) c.loop-i-test.true (omega arith))
 
-pub overflow-add-at : goal.overflow-add-at
-overflow-add-at g c = omega (arith, part-fits c.loop-i.i (length c.args.words.now / c.width-width.result) c.width-width.result (length c.args.words.now) c.loop-i-test.true (omega arith))
+pub overflow_add-at : goal.overflow_add-at
+overflow_add-at g c = omega (arith, part-fits c.loop-i.i (length c.args.words.now / c.width-width.result) c.width-width.result (length c.args.words.now) c.loop-i-test.true (omega arith))
 
-pub offset-bounds-words-at : goal.offset-bounds-words-at
-offset-bounds-words-at g c = omega (arith, part-fits c.loop-i.i (length c.args.words.now / c.width-width.result) c.width-width.result (length c.args.words.now) c.loop-i-test.true (omega arith))
+pub offset_bounds-words-at : goal.offset_bounds-words-at
+offset_bounds-words-at g c = omega (arith, part-fits c.loop-i.i (length c.args.words.now / c.width-width.result) c.width-width.result (length c.args.words.now) c.loop-i-test.true (omega arith))
 
-pub slice-bounds-read-end : goal.slice-bounds-read-end
-slice-bounds-read-end g c = omega (arith, part-fits c.loop-i.i (length c.args.words.now / c.width-width.result) c.width-width.result (length c.args.words.now) c.loop-i-test.true (omega arith))
+pub slice_bounds-read-end : goal.slice_bounds-read-end
+slice_bounds-read-end g c = omega (arith, part-fits c.loop-i.i (length c.args.words.now / c.width-width.result) c.width-width.result (length c.args.words.now) c.loop-i-test.true (omega arith))
 
-pub returns-in-default : goal.returns-in-default
-returns-in-default g c =
+pub returns-in_default : goal.returns-in_default
+returns-in_default g c =
     let m = g.P.Pixel.model in
     let ws = c.args.words.now in
     let i = c.loop-i.i in
@@ -34,7 +34,7 @@ returns-in-default g c =
     let below : i < length ws / m.width = let B : ℕ → Type 0 = λ n. i < length ws / n in subst B is c.loop-i-test.true in
     let part : take (i * w + w - i * w) (drop (i * w) ws) ≡ take m.width (drop (i * m.width) ws) =
     ap (λ n. take n (drop (i * w) ws)) (omega arith) ∙ ap (λ n. take n (drop (i * n) ws)) is in
-    no_part m g.met.P.Pixel.lawful ws i below (read_none m g.met.P.Pixel.lawful (take m.width (drop (i * m.width) ws)) (c.in-default.ensures ∙ ap m.reads part))
+    no_part m g.met.P.Pixel.lawful ws i below (read_none m g.met.P.Pixel.lawful (take m.width (drop (i * m.width) ws)) (c.in_default.ensures ∙ ap m.reads part))
 
 pub loop-i-preserved : goal.loop-i-preserved
 loop-i-preserved g c =

@@ -14,33 +14,33 @@ returns-then-out-width g c =
     let all = length-words m laws c.args.row.now ∙ ap (λ n. length c.args.row.now * n) (sym c.width-width.ensures) in
     (omega arith, refl, c.unranked.ensures)
 
-pub overflow-mul-at : goal.overflow-mul-at
-overflow-mul-at g c =
+pub overflow_mul-at : goal.overflow_mul-at
+overflow_mul-at g c =
     let part = part-fits c.loop-i.i (length c.args.row.now) c.width-width.result (length c.args.out.now) c.loop-i-test.true c.if-out-width.false in
     omega arith
 
-pub offset-bounds-out-at : goal.offset-bounds-out-at
-offset-bounds-out-at g c =
+pub offset_bounds-out-at : goal.offset_bounds-out-at
+offset_bounds-out-at g c =
     let part = part-fits c.loop-i.i (length c.args.row.now) c.width-width.result (length c.args.out.now) c.loop-i-test.true c.if-out-width.false in
     omega arith
 
-pub slice-bounds-write-count : goal.slice-bounds-write-count
-slice-bounds-write-count g c =
+pub slice_bounds-write-count : goal.slice_bounds-write-count
+slice_bounds-write-count g c =
     let part = part-fits c.loop-i.i (length c.args.row.now) c.width-width.result (length c.args.out.now) c.loop-i-test.true c.if-out-width.false in
     omega arith
 
-pub slice-bounds-write-start : goal.slice-bounds-write-start
-slice-bounds-write-start g c =
+pub slice_bounds-write-start : goal.slice_bounds-write-start
+slice_bounds-write-start g c =
     let part = part-fits c.loop-i.i (length c.args.row.now) c.width-width.result (length c.args.out.now) c.loop-i-test.true c.if-out-width.false in
     search rules
 
-pub returns-in-err-write : goal.returns-in-err-write
-returns-in-err-write g c =
+pub returns-in_err-write : goal.returns-in_err-write
+returns-in_err-write g c =
     let laws = g.met.P.Pixel.lawful in
     let at = c.loop-i.i * c.width-width.result in
     let part = part-fits c.loop-i.i (length c.args.row.now) c.width-width.result (length c.args.out.now) c.loop-i-test.true c.if-out-width.false in
-    let short = c.in-err-write.ensures.0 in
-    let none : ⊥ = omega (arith, part_length c.loop-i.out at, laws.words-length c.from-record.result) in
+    let short = c.in_err-write.ensures.0 in
+    let none : ⊥ = omega (arith, part_length c.loop-i.out at, laws.words-length c.from_record.result) in
     absurd none
 
 pub loop-i-preserved : goal.loop-i-preserved

@@ -6,13 +6,13 @@ use Rattle.boxes.proofs.cell_link.CellLinkLink.send.Goals as goal
 
 pub returns-then-self-at-ne0 : goal.returns-then-self-at-ne0
 returns-then-self-at-ne0 c =
-    rw c.link-fault-then-self-at-ne0.ensures (send_taken c.args.self.now c.args.from c.args.to c.start-at.result (sym c.if-not-is-pair.ensures) c.start-at.ensures.is c.args.words.now (sym c.if-not-is-length.ensures) c.if-self-at-ne0.true)
+    rw c.link_fault-then-self-at-ne0.ensures (send_taken c.args.self.now c.args.from c.args.to c.start-at.result (sym c.if-not-is_pair.ensures) c.start-at.ensures.is c.args.words.now (sym c.if-not-is_length.ensures) c.if-self-at-ne0.true)
 
-pub invariant-of-self : goal.invariant-of-self
-invariant-of-self c =
+pub invariant_of-self : goal.invariant_of-self
+invariant_of-self c =
     let s = c.args.self.now in
     let count = length c.args.words.now in
-    let fits : count ≤ s.longest = let t = c.if-not-is-length.ensures in grind (arith, nat_tests) in
+    let fits : count ≤ s.longest = let t = c.if-not-is_length.ensures in grind (arith, nat_tests) in
     let few = s.short in
     let len = length-set s.words.now c.start-at.result count in
     (s.few, (s.short, (omega (arith, s.room, len), (set_below _ s.words.now c.start-at.result count (omega arith) s.fits, tt))))
@@ -20,4 +20,4 @@ invariant-of-self c =
 pub returns : goal.returns
 returns c =
     let e = c.write.ensures in
-    send_done c.args.self.now c.args.from c.args.to c.start-at.result (sym c.if-not-is-pair.ensures) c.start-at.ensures.is c.args.words.now (sym c.if-not-is-length.ensures) c.if-self-at-ne0.false c.write.new.self e.ranks e.longest e.words
+    send_done c.args.self.now c.args.from c.args.to c.start-at.result (sym c.if-not-is_pair.ensures) c.start-at.ensures.is c.args.words.now (sym c.if-not-is_length.ensures) c.if-self-at-ne0.false c.write.new.self e.ranks e.longest e.words

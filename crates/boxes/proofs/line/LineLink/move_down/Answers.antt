@@ -8,8 +8,8 @@ pub loop-i-init : goal.loop-i-init
 loop-i-init c = let d = c.args.self.now.words.now in (refl, refl, refl, paste_none d c.args.to (drop c.args.from d))
 
 -- the used words stay
-pub invariant-of-self : goal.invariant-of-self
-invariant-of-self c =
+pub invariant_of-self : goal.invariant_of-self
+invariant_of-self c =
     let s = c.loop-i.self in
     let i = c.args.to + c.loop-i.i in
     let w = get_or s.words.now (c.args.from + c.loop-i.i) 0 in

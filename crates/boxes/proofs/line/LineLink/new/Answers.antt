@@ -5,18 +5,18 @@ use Rattle.boxes.specs.Sizes.{suffices}
 use Rattle.boxes.proofs.LineCalls.{none_spelt, none_good, line_vacant}
 use Rattle.boxes.proofs.line.LineLink.new.Goals as goal
 
-pub invariant-of-result : goal.invariant-of-result
-invariant-of-result c = (omega arith, (omega arith, (omega arith, (omega arith, (none_spelt, (none_good 0 0, (λ k. lit< tt, tt)))))))
+pub invariant_of-result : goal.invariant_of-result
+invariant_of-result c = (omega arith, (omega arith, (omega arith, (omega arith, (none_spelt, (none_good 0 0, (λ k. lit< tt, tt)))))))
 
-pub returns-then-not-line-fits : goal.returns-then-not-line-fits
-returns-then-not-line-fits c = let t = sym c.if-not-line-fits.ensures in rw t (line_vacant 0 0)
+pub returns-then-not-line_fits : goal.returns-then-not-line_fits
+returns-then-not-line_fits c = let t = sym c.if-not-line_fits.ensures in rw t (line_vacant 0 0)
 
-pub invariant-of-result-2 : goal.invariant-of-result-2
-invariant-of-result-2 c =
+pub invariant_of-result-2 : goal.invariant_of-result-2
+invariant_of-result-2 c =
     let n = c.args.ranks in
     let l = c.args.longest in
-    let h : suffices n l (line_words n l) (length c.args.words.now) ≡ true = sym c.if-not-line-fits.ensures in
+    let h : suffices n l (line_words n l) (length c.args.words.now) ≡ true = sym c.if-not-line_fits.ensures in
     (grind (arith, nat_tests), (grind (arith, nat_tests), (grind (arith, nat_tests), (omega arith, (none_spelt, (none_good n l, (λ k. lit< tt, tt)))))))
 
 pub returns : goal.returns
-returns c = let t = sym c.if-not-line-fits.ensures in rw t (line_vacant c.args.ranks c.args.longest)
+returns c = let t = sym c.if-not-line_fits.ensures in rw t (line_vacant c.args.ranks c.args.longest)

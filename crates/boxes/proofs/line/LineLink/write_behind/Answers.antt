@@ -7,8 +7,8 @@ pub loop-i-init : goal.loop-i-init
 loop-i-init c = (refl, refl, refl, paste_none c.args.self.now.words.now c.args.at c.args.message.now)
 
 -- the used words stay
-pub invariant-of-self : goal.invariant-of-self
-invariant-of-self c =
+pub invariant_of-self : goal.invariant_of-self
+invariant_of-self c =
     let s = c.loop-i.self in
     let i = c.args.at + c.loop-i.i in
     let w = get_or c.args.message.now c.loop-i.i 0 in
