@@ -12,7 +12,7 @@ pub fn echo<L: Link>(
     words: &[u32],
     area: &mut [u32],
 ) -> Result<usize, Fault>
-    ensures { Echo (model link.old) (model link.new) from to words.now area.old area.new result }
+    ensures { Echo (L.model link.old) (L.model link.new) from to words.now area.old area.new result }
 {
     link.send(from, to, words)?;
     let count = link.read(from, to, area)?;

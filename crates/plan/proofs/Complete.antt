@@ -1,10 +1,10 @@
 -- The transfers in order are a transfer list, and none is shorter.
 use Rattle.std.proofs.Common.{◌≡◌, ℕ, zero, suc, ◌+◌, ◌-◌, ◌<◌, ◌≤◌, Bool, true, false, cond, eqb, ◌⊎◌, List, [], ◌∷◌, ◌++◌, length, sym, refl, ap, ◌∙◌, subst, inl, inr, ⊎_elim, arith}
 use borrow.Author.Tests.{eqb-false}
-use Rattle.std.proofs.str.Laws.{order}
 use Rattle.std.proofs.ByRecursion.{All-append, All-weaker}
 use Rattle.std.proofs.lemmas.List.{append_assoc, length-append}
 use Rattle.std.specs.List.{AllByRecursion as All}
+use Rattle.plan.specs.Shares.{order}
 use Rattle.plan.specs.declared.transfer.Transfer.{Transfer}
 use Rattle.plan.specs.Model.{PlanModel}
 use Rattle.plan.specs.Order.{up_to, between, to_place, from, in_round, all_rounds, Put, Wrote}

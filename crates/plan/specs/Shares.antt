@@ -1,9 +1,16 @@
 -- Of p positions shared out in n parts each lies in exactly one. Assumes nothing.
-use Rattle.std.specs.Prelude.{◌≡◌, ℕ, ◌+◌, ◌-◌, ◌*◌, ◌/◌, ◌<◌, ◌≤◌, ◌⊎◌}
-use Rattle.std.proofs.Common.{ap, ◌∙◌, arith, le-div_iff_mul-le, div-lt_iff_lt-mul, mul-le-mul_right, mul_comm, mul-div_cancel, div-mul-le_self, zero-mul, le_refl, ⊎_elim}
+use Rattle.std.specs.Prelude.{◌≡◌, ℕ, ◌+◌, ◌-◌, ◌*◌, ◌/◌, ◌<◌, ◌≤◌, Bool, true, false, ◌⊎◌, nat_lt, refl}
+use Rattle.std.proofs.Common.{ap, ◌∙◌, arith, le-div_iff_mul-le, div-lt_iff_lt-mul, mul-le-mul_right, mul_comm, mul-div_cancel, div-mul-le_self, zero-mul, le_refl, ⊎_elim, inl, inr, ltb-true, ltb-false}
 use Rattle.std.proofs.Math.Nat.{zero-div}
-use Rattle.std.proofs.str.Laws.{order}
 use Rattle.plan.specs.Runs.{cut}
+
+-- a number is below another, or it is not
+pub order : (m n : ℕ) → (m < n) ⊎ (n ≤ m)
+order m n = by_test (nat_lt m n) refl
+  where
+    by_test : (y : Bool) → nat_lt m n ≡ y → (m < n) ⊎ (n ≤ m)
+    by_test true e = inl (ltb-true m n e)
+    by_test false e = inr (ltb-false m n e)
 
 -- the part that position x lies in
 abbrev pub part_of : ℕ → ℕ → ℕ → ℕ

@@ -3,10 +3,9 @@ use Rattle.std.specs.Prelude.{◌≡◌, ℕ, zero, suc, ◌+◌, ◌-◌, ◌*�
 use Rattle.std.proofs.Common.{sym, ap, ap₂, subst, ◌∙◌, ⊎_elim, arith, le-div_iff_mul-le, div-mul-le_self, mul-le-mul_right, div-one, mul-one, add-mul, mul_assoc, mul_comm, pow-suc, zero-mul, pow_pos, pow_mono, eq-eqb, ne_eqb, le-leb}
 use Rattle.std.proofs.Math.Nat.{lt-div-mul-add, div-eq_of_lt-le, div-div-eq-div-mul, min-le_left}
 use Rattle.std.proofs.lemmas.Bool.{lt-leb}
-use Rattle.std.proofs.str.Laws.{order}
 use Rattle.plan.specs.Model.{Limits, PlanModel}
 use Rattle.plan.specs.Runs.{run_of, In, cut}
-use Rattle.plan.specs.Shares.{part_of, cut-none, cut_all, cut_up, lies_in_one, lies_once, part-below}
+use Rattle.plan.specs.Shares.{order, part_of, cut-none, cut_all, cut_up, lies_in_one, lies_once, part-below}
 use Rattle.plan.specs.Swap.{top, index, start, size, group_by, group, span}
 
 module _ (R w : ℕ) (pos : 0 < w) (fits : w ≤ R) where

@@ -21,7 +21,7 @@ pub fn common(a: Run, b: Run) -> Run
 
 // What `sender` has, going on from `round`, of the new span of `receiver`.
 pub fn piece<P: Plan>(plan: &P, round: u32, sender: u32, receiver: u32) -> Result<Run, Fault>
-    ensures { result ≡ piece_told (model plan.now) round sender receiver }
+    ensures { result ≡ piece_told (P.model plan.now) round sender receiver }
 {
     let old = plan.span(round, sender)?;
     let new = plan.span(round.saturating_add(1), receiver)?;

@@ -9,8 +9,8 @@ use tile::fault::Fault;
 
 // How many pixels of the rank's old span lie outside its new one, going on from `round`.
 fn leaving<P: Plan>(plan: &P, round: u32, rank: u32) -> Result<u32, Fault>
-    requires { round < (model plan.now).rounds }
-    ensures { result ≡ told (model plan.now) rank (amounts.leaving (model plan.now) rank round) }
+    requires { round < (P.model plan.now).rounds }
+    ensures { result ≡ told (P.model plan.now) rank (amounts.leaving (P.model plan.now) rank round) }
 {
     let old = plan.span(round, rank)?;
     let kept = piece(plan, round, rank, rank)?;
@@ -19,7 +19,7 @@ fn leaving<P: Plan>(plan: &P, round: u32, rank: u32) -> Result<u32, Fault>
 
 // How many pixels the rank sends over all rounds.
 pub fn sends<P: Plan>(plan: &P, rank: u32) -> Result<u32, Fault>
-    ensures { result ≡ told (model plan.now) rank (amounts.sent (model plan.now) rank) }
+    ensures { result ≡ told (P.model plan.now) rank (amounts.sent (P.model plan.now) rank) }
 {
     if rank >= plan.ranks() {
         return Err(outside(rank));

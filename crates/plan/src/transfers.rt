@@ -11,8 +11,8 @@ use tile::fault::{Fault, Ground, unranked};
 
 // The group of the rank in the round after `round`.
 fn next_group<P: Plan>(plan: &P, round: u32, rank: u32) -> Run
-    requires { (round < (model plan.now).rounds) × (rank < (model plan.now).ranks) }
-    ensures { result ≡ (model plan.now).group (suc round) rank }
+    requires { (round < (P.model plan.now).rounds) × (rank < (P.model plan.now).ranks) }
+    ensures { result ≡ (P.model plan.now).group (suc round) rank }
 {
     match plan.group(round + 1, rank) {
         Ok(group) => group,
@@ -22,8 +22,8 @@ fn next_group<P: Plan>(plan: &P, round: u32, rank: u32) -> Run
 
 // The entry for what `sender` has of the new span of `receiver`.
 fn entry<P: Plan>(plan: &P, round: u32, sender: u32, receiver: u32) -> Transfer
-    requires { (round < (model plan.now).rounds) × (sender < (model plan.now).ranks) × (receiver < (model plan.now).ranks) }
-    ensures { result ≡ transfer_of (model plan.now) round sender receiver }
+    requires { (round < (P.model plan.now).rounds) × (sender < (P.model plan.now).ranks) × (receiver < (P.model plan.now).ranks) }
+    ensures { result ≡ transfer_of (P.model plan.now) round sender receiver }
 {
     match piece(plan, round, sender, receiver) {
         Ok(piece) => Transfer {
@@ -45,8 +45,8 @@ fn put_between<P: Plan>(
     area: &mut [Transfer],
     place: usize,
 ) -> usize
-    requires { (round < (model plan.now).rounds) × (sender < (model plan.now).ranks) × (receiver < (model plan.now).ranks) × (place < 32768) }
-    ensures { Put (between (model plan.now) round sender receiver) place area.old area.new result }
+    requires { (round < (P.model plan.now).rounds) × (sender < (P.model plan.now).ranks) × (receiver < (P.model plan.now).ranks) × (place < 32768) }
+    ensures { Put (between (P.model plan.now) round sender receiver) place area.old area.new result }
 {
     let transfer = entry(plan, round, sender, receiver);
     if sender == receiver || transfer.piece.len == 0 {
@@ -66,8 +66,8 @@ fn put_from<P: Plan>(
     area: &mut [Transfer],
     place: usize,
 ) -> usize
-    requires { (round < (model plan.now).rounds) × (sender < (model plan.now).ranks) × (place + 32 ≤ 32768) }
-    ensures { Put (from (model plan.now) round sender) place area.old area.new result }
+    requires { (round < (P.model plan.now).rounds) × (sender < (P.model plan.now).ranks) × (place + 32 ≤ 32768) }
+    ensures { Put (from (P.model plan.now) round sender) place area.old area.new result }
 {
     let group = next_group(plan, round, sender);
     let mut next = place;
@@ -79,8 +79,8 @@ fn put_from<P: Plan>(
 
 // The same of one round.
 fn put_round<P: Plan>(plan: &P, round: u32, area: &mut [Transfer], place: usize) -> usize
-    requires { (round < (model plan.now).rounds) × (place + 1024 ≤ 32768) }
-    ensures { Put (in_round (model plan.now) round) place area.old area.new result }
+    requires { (round < (P.model plan.now).rounds) × (place + 1024 ≤ 32768) }
+    ensures { Put (in_round (P.model plan.now) round) place area.old area.new result }
 {
     let mut next = place;
     for sender in 0..plan.ranks() {
@@ -91,7 +91,7 @@ fn put_round<P: Plan>(plan: &P, round: u32, area: &mut [Transfer], place: usize)
 
 // The same of all rounds, from the first place.
 fn put_all<P: Plan>(plan: &P, area: &mut [Transfer]) -> usize
-    ensures { Wrote (model plan.now) area.old area.new result }
+    ensures { Wrote (P.model plan.now) area.old area.new result }
 {
     let mut next = 0;
     for round in 0..plan.rounds() {
@@ -103,7 +103,7 @@ fn put_all<P: Plan>(plan: &P, area: &mut [Transfer]) -> usize
 // Writes every transfer once into the first entries of the area, in no promised order, and answers how many they are;
 // refused where the area has fewer entries.
 pub fn list_transfers<P: Plan>(plan: &P, area: &mut [Transfer]) -> Result<usize, Fault>
-    ensures { Listed (model plan.now) area.old area.new result }
+    ensures { Listed (P.model plan.now) area.old area.new result }
 {
     if put_all(plan, &mut []) > area.len() {
         return Err(unranked(Ground::TooShort));

@@ -7,7 +7,7 @@ use Rattle.dump.proofs.reader.leading.Goals as goal
 pub returns : goal.returns
 returns c =
     let rest = c.args.rest.now in
-    let f = c.in-Some-get.ensures.finds.0 in
+    let f = c.in-Some-get.ensures.lookup.0 in
     let told = c.labelled.ensures in
     let k = c.in-Some.ensures in
     let back = behind-first rest in

@@ -50,6 +50,6 @@ returns-in-None g c =
     let u = subst (λ k. ReadInto (untrimmed k form) c.args.area.now c.read_trimmed.new.area None) l c.in-None.ensures in
     rw c.link_fault-in-None.ensures (trim_read m n c.args.from c.args.to c.args.area.now c.read_trimmed.new.area c.args.self.now.scratch c.read.new.area c.in_ok-size.size None pair room roomy c.in_ok-size.ensures u)
 
-pub shared_ref_as_front·read_trimmed : goal.shared_ref_as_front·read_trimmed
-shared_ref_as_front·read_trimmed g c =
+pub shared_ref_as_front-read_trimmed : goal.shared_ref_as_front-read_trimmed
+shared_ref_as_front-read_trimmed g c =
     (length-read _ _ c.args.from c.args.to c.in_ok-size.size _ _ c.longest.ensures.lawful c.in_ok-size.ensures).1
