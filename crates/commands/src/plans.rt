@@ -174,7 +174,7 @@ pub fn plan_words(rt: &HostRuntime, words: &[String]) -> anyhow::Result<()> {
     let mut line = String::new(rt.alloc());
     let mut form = Form::Lines;
     for word in words {
-        if word == "--svg" {
+        if word.as_str() == "--svg" {
             form = Form::Picture;
         } else {
             line.push_str(word.as_str())?;

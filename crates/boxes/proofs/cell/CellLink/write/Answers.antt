@@ -12,7 +12,12 @@ invariant_of-self c =
     let i = c.args.at + c.loop-i.i in
     let w = get_or c.args.message.now c.loop-i.i 0 in
     let len = length-set s.words.now i w in
-    (s.few, (s.short, (omega (arith, s.room, len), (set_below _ s.words.now i w (search rules) s.fits, tt))))
+    record {
+      few = s.few;
+      short = s.short;
+      room = omega (arith, s.room, len);
+      fits = set_below _ s.words.now i w (search rules) s.fits;
+    }
 
 pub loop-i-preserved : goal.loop-i-preserved
 loop-i-preserved c =

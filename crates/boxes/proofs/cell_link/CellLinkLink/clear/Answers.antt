@@ -11,7 +11,12 @@ pub invariant_of-self : goal.invariant_of-self
 invariant_of-self c =
     let s = c.args.self.now in
     let len = length-set s.words.now c.start-at.result 0 in
-    (s.few, (s.short, (omega (arith, s.room, len), (set_below _ s.words.now c.start-at.result 0 (lit< tt) s.fits, tt))))
+    record {
+      few = s.few;
+      short = s.short;
+      room = omega (arith, s.room, len);
+      fits = set_below _ s.words.now c.start-at.result 0 (lit< tt) s.fits;
+    }
 
 pub returns : goal.returns
 returns c = clear_done c.args.self.now c.args.from c.args.to c.start-at.result (sym c.if-not-is_pair.ensures) c.start-at.ensures.is c.if-self-at-eq0.false

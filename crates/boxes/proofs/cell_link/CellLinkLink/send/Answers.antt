@@ -15,7 +15,12 @@ invariant_of-self c =
     let fits : count ≤ s.longest = let t = c.if-not-is_length.ensures in grind (arith, nat_tests) in
     let few = s.short in
     let len = length-set s.words.now c.start-at.result count in
-    (s.few, (s.short, (omega (arith, s.room, len), (set_below _ s.words.now c.start-at.result count (omega arith) s.fits, tt))))
+    record {
+      few = s.few;
+      short = s.short;
+      room = omega (arith, s.room, len);
+      fits = set_below _ s.words.now c.start-at.result count (omega arith) s.fits;
+    }
 
 pub returns : goal.returns
 returns c =

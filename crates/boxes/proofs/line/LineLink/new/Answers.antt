@@ -6,7 +6,16 @@ use Rattle.boxes.proofs.LineCalls.{none_spelt, none_good, line_vacant}
 use Rattle.boxes.proofs.line.LineLink.new.Goals as goal
 
 pub invariant_of-result : goal.invariant_of-result
-invariant_of-result c = (omega arith, (omega arith, (omega arith, (omega arith, (none_spelt, (none_good 0 0, (λ k. lit< tt, tt)))))))
+invariant_of-result c =
+    record {
+      few = omega arith;
+      short = omega arith;
+      room = omega arith;
+      within = omega arith;
+      spelt = none_spelt;
+      good = none_good 0 0;
+      fits = λ k. lit< tt;
+    }
 
 pub returns-then-not-line_fits : goal.returns-then-not-line_fits
 returns-then-not-line_fits c = let t = sym c.if-not-line_fits.ensures in rw t (line_vacant 0 0)
@@ -16,7 +25,15 @@ invariant_of-result-2 c =
     let n = c.args.ranks in
     let l = c.args.longest in
     let h : suffices n l (line_words n l) (length c.args.words.now) ≡ true = sym c.if-not-line_fits.ensures in
-    (grind (arith, nat_tests), (grind (arith, nat_tests), (grind (arith, nat_tests), (omega arith, (none_spelt, (none_good n l, (λ k. lit< tt, tt)))))))
+    record {
+      few = grind (arith, nat_tests);
+      short = grind (arith, nat_tests);
+      room = grind (arith, nat_tests);
+      within = omega arith;
+      spelt = none_spelt;
+      good = none_good n l;
+      fits = λ k. lit< tt;
+    }
 
 pub returns : goal.returns
 returns c = let t = sym c.if-not-line_fits.ensures in rw t (line_vacant c.args.ranks c.args.longest)

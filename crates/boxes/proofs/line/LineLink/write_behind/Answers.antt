@@ -14,7 +14,15 @@ invariant_of-self c =
     let w = get_or c.args.message.now c.loop-i.i 0 in
     let len = length-set s.words.now i w in
     let same = take-set-le s.used s.words.now i w (omega (arith, c.requires.behind, c.loop-i.invariant.2)) in
-    (s.few, (s.short, (omega (arith, s.room, len), (omega (arith, s.within, len), (rw same s.spelt, (rw same s.good, (rw same s.fits, tt)))))))
+    record {
+      few = s.few;
+      short = s.short;
+      room = omega (arith, s.room, len);
+      within = omega (arith, s.within, len);
+      spelt = rw same s.spelt;
+      good = rw same s.good;
+      fits = rw same s.fits;
+    }
 
 pub loop-i-preserved : goal.loop-i-preserved
 loop-i-preserved c =

@@ -36,7 +36,15 @@ invariant_of-self c =
     let at = c.seek-at.result in
     let items = s.words.now in
     let next = next-within s c.args.from c.args.to at pair c.seek-at.ensures c.if-at-self.false in
-    (s.few, (s.short, (s.room, (omega (arith, s.within, next), (short_spelt s c.args.from c.args.to at pair c.seek-at.ensures c.if-at-self.false, (short_good s c.args.from c.args.to at pair c.seek-at.ensures c.if-at-self.false, (short_words s c.args.from c.args.to at pair c.seek-at.ensures c.if-at-self.false, tt)))))))
+    record {
+      few = s.few;
+      short = s.short;
+      room = s.room;
+      within = omega (arith, s.within, next);
+      spelt = short_spelt s c.args.from c.args.to at pair c.seek-at.ensures c.if-at-self.false;
+      good = short_good s c.args.from c.args.to at pair c.seek-at.ensures c.if-at-self.false;
+      fits = short_words s c.args.from c.args.to at pair c.seek-at.ensures c.if-at-self.false;
+    }
 
 pub move_down-requires : goal.move_down-requires
 move_down-requires c =
@@ -61,7 +69,15 @@ invariant_of-self-2 c =
     let rest = length-drop start items in
     let len = length-paste items at (drop start items) (s.used - start) (omega (arith, s.within, next)) (omega (arith, s.within, next)) in
     let shut = clear_good s c.args.from c.args.to at pair c.seek-at.ensures _ c.if-at-self.false cut in
-    (last.few, (last.short, (last.room, (omega (arith, s.within, next, len, ap length e.words), (clear_spelt s c.args.from c.args.to at pair c.seek-at.ensures _ c.if-at-self.false cut, (good_moved s.ranks s.longest last.ranks last.longest _ e.ranks e.longest shut, (clear_words s c.args.from c.args.to at pair c.seek-at.ensures _ c.if-at-self.false cut, tt)))))))
+    record {
+      few = last.few;
+      short = last.short;
+      room = last.room;
+      within = omega (arith, s.within, next, len, ap length e.words);
+      spelt = clear_spelt s c.args.from c.args.to at pair c.seek-at.ensures _ c.if-at-self.false cut;
+      good = good_moved s.ranks s.longest last.ranks last.longest _ e.ranks e.longest shut;
+      fits = clear_words s c.args.from c.args.to at pair c.seek-at.ensures _ c.if-at-self.false cut;
+    }
 
 pub returns : goal.returns
 returns c =

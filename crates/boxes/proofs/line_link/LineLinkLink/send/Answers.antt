@@ -59,7 +59,15 @@ invariant_of-self c =
     let l₁ = length-paste items s.used (c.box_number.result ∷ length m ∷ []) 2 (omega (arith, room, s.room)) (omega arith) in
     let l₂ = length-paste one.words.now (s.used + 2) m (length m) (omega (arith, room, s.room, l₁, ap length p.words)) (omega arith) in
     let shut = send_good s c.args.from c.args.to c.seek.result pair c.seek.ensures m fits c.if-seek-self.false _ grown in
-    (two.few, (two.short, (two.room, (omega (arith, room, s.room, l₁, l₂, ap length p.words, ap length q.words), (send_spelt s c.args.from c.args.to c.seek.result pair c.seek.ensures m fits c.if-seek-self.false _ grown, (good_moved s.ranks s.longest two.ranks two.longest _ (q.ranks ∙ p.ranks) (q.longest ∙ p.longest) shut, (send_words s c.args.from c.args.to c.seek.result pair c.seek.ensures m fits c.if-seek-self.false _ grown (λ k. (c.type_inv.words k).fits), tt)))))))
+    record {
+      few = two.few;
+      short = two.short;
+      room = two.room;
+      within = omega (arith, room, s.room, l₁, l₂, ap length p.words, ap length q.words);
+      spelt = send_spelt s c.args.from c.args.to c.seek.result pair c.seek.ensures m fits c.if-seek-self.false _ grown;
+      good = good_moved s.ranks s.longest two.ranks two.longest _ (q.ranks ∙ p.ranks) (q.longest ∙ p.longest) shut;
+      fits = send_words s c.args.from c.args.to c.seek.result pair c.seek.ensures m fits c.if-seek-self.false _ grown (λ k. (c.type_inv.words k).fits);
+    }
 
 pub returns : goal.returns
 returns c =
