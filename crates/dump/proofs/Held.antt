@@ -10,7 +10,7 @@ use Rattle.dump.specs.declared.stage.Stage.{Stage}
 use Rattle.dump.specs.declared.stage.Stage.TheVariants.{Start, Within, Ended}
 use Rattle.dump.specs.declared.reader.Item.{Item}
 use Rattle.dump.specs.Grammar.{Piece, place, pixel, pieces_then, sections_then, head_of, Upward, Sections, Limits, HasForm, Content, Placed, numbered, all_numbered}
-use Rattle.dump.specs.Order.{ground, next, refusal}
+use Rattle.dump.specs.Order.{record_ground, next, refusal}
 use Rattle.dump.specs.Pixels.{if_sound, placed, pixels_by, pixels_from, pixels_in}
 use Rattle.dump.specs.Records.{Known, body_size, kind_of, body_of, kind_at, body_at, behind, no_record, Stands}
 use Rattle.dump.proofs.Runs.{kind_is, body_is, refusal-there, refusal-missing, next-there, behind-there}
@@ -53,7 +53,7 @@ stopped s [] g f = refl
 stopped s (k ∷ xs) g f = rw f
 
 -- the record that stands at the cursor
-pub taken_at : (bytes : List ℕ) (at after : ℕ) (item : Item) (s t : Stage) → Stands bytes at item after → ground s (kind_of item.content) (body_of item.content) ≡ None → t ≡ next s (kind_of item.content) (body_of item.content) → pixels_from s (drop at bytes) ≡ placed s (kind_of item.content) (body_of item.content) ++ pixels_from t (drop after bytes)
+pub taken_at : (bytes : List ℕ) (at after : ℕ) (item : Item) (s t : Stage) → Stands bytes at item after → record_ground s (kind_of item.content) (body_of item.content) ≡ None → t ≡ next s (kind_of item.content) (body_of item.content) → pixels_from s (drop at bytes) ≡ placed s (kind_of item.content) (body_of item.content) ++ pixels_from t (drop after bytes)
 taken_at bytes at after item s t h sound to =
     let l = h.leads in
     let rest = drop at bytes in
@@ -65,11 +65,11 @@ taken_at bytes at after item s t h sound to =
 pub none-at : (bytes : List ℕ) (at : ℕ) (g : Ground) (s : Stage) → no_record (drop at bytes) ≡ Some g → pixels_from s (drop at bytes) ≡ []
 none-at bytes at g s h = stopped s (drop at bytes) g (refusal-missing s (drop at bytes) g h)
 
-pub refused-at : (bytes : List ℕ) (at after : ℕ) (g : Ground) (item : Item) (s : Stage) → Stands bytes at item after → ground s (kind_of item.content) (body_of item.content) ≡ Some g → pixels_from s (drop at bytes) ≡ []
+pub refused-at : (bytes : List ℕ) (at after : ℕ) (g : Ground) (item : Item) (s : Stage) → Stands bytes at item after → record_ground s (kind_of item.content) (body_of item.content) ≡ Some g → pixels_from s (drop at bytes) ≡ []
 refused-at bytes at after g item s h is = stopped s (drop at bytes) g (refusal-there h.leads s ∙ is)
 
 -- one sound record, whose bytes stand at the front
-one : (t : Stage) (k : ℕ) (b left : List ℕ) → Known k → length b ≡ body_size k → ground t k b ≡ None → pixels_from t (k ∷ (b ++ left)) ≡ placed t k b ++ pixels_from (next t k b) left
+one : (t : Stage) (k : ℕ) (b left : List ℕ) → Known k → length b ≡ body_size k → record_ground t k b ≡ None → pixels_from t (k ∷ (b ++ left)) ≡ placed t k b ++ pixels_from (next t k b) left
 one t k b left known size sound =
     taken t (k ∷ (b ++ left)) (refusal-same t k b left known size ∙ sound)
     ∙ ap₂ (λ (c l : List ℕ). placed t k c ++ pixels_from (next t k c) l) (body_same t k b left known size) (behind-same t k b left known size)

@@ -10,7 +10,7 @@ use Rattle.dump.specs.declared.stage.Stage.{Stage}
 use Rattle.dump.specs.declared.stage.Stage.TheVariants.{Start, Within, Ended}
 use Rattle.dump.specs.Bytes.{half, words_in}
 use Rattle.dump.specs.Grammar.{Piece, place, pixel, pieces_then, sections_then, head_of, Upward, Sections, Limits, HasForm, Placed, all_numbered}
-use Rattle.dump.specs.Order.{ground, next, or_else, refusal, pixel_ground, Sound, none, more}
+use Rattle.dump.specs.Order.{record_ground, next, or_else, refusal, pixel_ground, Sound, none, more}
 use Rattle.dump.specs.Pixels.{pixels_in}
 use Rattle.dump.specs.Reading.{holding}
 use Rattle.dump.specs.Records.{Known, body_size, kind_told, kind_at, body_at, behind, no_record}
@@ -31,7 +31,7 @@ join n (more run f) l = join (suc n) run (then f l)
 record Front (t : Stage) (rest : List ℕ) : Type 0 where
   known : Known (kind_at rest)
   size : length (body_at rest) ≡ body_size (kind_at rest)
-  sound : ground t (kind_at rest) (body_at rest) ≡ None
+  sound : record_ground t (kind_at rest) (body_at rest) ≡ None
   split : rest ≡ kind_at rest ∷ (body_at rest ++ behind rest)
 
 none-missing : (n k z : ℕ) → missing n k z ≡ None → (0 < n) × Known k × (1 + z ≤ n)
@@ -45,7 +45,7 @@ front : (t : Stage) (rest : List ℕ) → refusal t rest ≡ None → Front t re
 unfolding refusal
 front t [] f = let z : ◌≡◌ {A = ℕ} 0 1 = cc (at_end t [] refl) in absurd (omega arith)
 front t (k ∷ xs) f =
-    let z = none_both (no_record (k ∷ xs)) (ground t k (body_at (k ∷ xs))) f in
+    let z = none_both (no_record (k ∷ xs)) (record_ground t k (body_at (k ∷ xs))) f in
     let m = none-missing (length (k ∷ xs)) k (body_size k) z.0 in
     let fits : body_size k ≤ length xs = omega (arith, m.2) in
     record {
@@ -66,36 +66,36 @@ record Parse (h : Head) (p : Progress) (rest : List ℕ) : Type 0 where
   all : p.sections + length sections ≡ p.head.ranks
   spelled : rest ≡ pieces_then pieces (sections_then p.sections sections)
 
-no_head : (p : Progress) (b : List ℕ) → ground (Within p) 1 b ≡ None → ⊥
-unfolding ground
+no_head : (p : Progress) (b : List ℕ) → record_ground (Within p) 1 b ≡ None → ⊥
+unfolding record_ground
 no_head p b g = grind (arith, nat_tests)
 
-rank_told : (p : Progress) (b : List ℕ) → ground (Within p) 2 b ≡ None → (get_or b 0 0 ≡ p.sections) × (p.sections < p.head.ranks)
-unfolding ground
+rank_told : (p : Progress) (b : List ℕ) → record_ground (Within p) 2 b ≡ None → (get_or b 0 0 ≡ p.sections) × (p.sections < p.head.ranks)
+unfolding record_ground
 rank_told p b g = (grind (arith, nat_tests), grind (arith, nat_tests))
 
-place-told : (p : Progress) (b : List ℕ) → ground (Within p) 3 b ≡ None → (p.sections ≡ 0 → ⊥) × (p.due < half b 0) × (half b 0 < p.head.pixels)
-unfolding ground
+place-told : (p : Progress) (b : List ℕ) → record_ground (Within p) 3 b ≡ None → (p.sections ≡ 0 → ⊥) × (p.due < half b 0) × (half b 0 < p.head.pixels)
+unfolding record_ground
 place-told p b g = (λ e. grind (arith, nat_tests), grind (arith, nat_tests), grind (arith, nat_tests))
 
-end_told : (p : Progress) (b : List ℕ) → ground (Within p) 6 b ≡ None → p.head.ranks ≤ p.sections
-unfolding ground
+end_told : (p : Progress) (b : List ℕ) → record_ground (Within p) 6 b ≡ None → p.head.ranks ≤ p.sections
+unfolding record_ground
 end_told p b g = grind (arith, nat_tests)
 
-all_told : (k : ℕ) (b : List ℕ) → ground Start k b ≡ None → k ≡ 1
-unfolding ground
+all_told : (k : ℕ) (b : List ℕ) → record_ground Start k b ≡ None → k ≡ 1
+unfolding record_ground
 all_told k b g = grind (arith, nat_tests)
 
-head-told : (b : List ℕ) → ground Start 1 b ≡ None → Limits (head_of b)
-unfolding ground
+head-told : (b : List ℕ) → record_ground Start 1 b ≡ None → Limits (head_of b)
+unfolding record_ground
 head-told b g = record { ranks_in = (grind (arith, nat_tests), grind (arith, nat_tests)); pixels_in = (grind (arith, nat_tests), grind (arith, nat_tests)); kind_in = grind (arith, nat_tests) }
 
 -- a sound pixel record
 pixel-told : (n : ℕ) (p : Progress) (b : List ℕ) → pixel_ground n (Within p) b ≡ None → (p.sections ≡ 0 → ⊥) × (n ≡ p.head.kind) × (p.due < p.head.pixels) × (named_lawful n (words_in b) ≡ true)
 pixel-told n p b g = (λ e. grind (arith, nat_tests), grind (arith, nat_tests), grind (arith, nat_tests), grind (arith, nat_tests))
 
-none_after : (d : Head) (k : ℕ) (b : List ℕ) → ground (Ended d) k b ≡ None → ⊥
-unfolding ground
+none_after : (d : Head) (k : ℕ) (b : List ℕ) → record_ground (Ended d) k b ≡ None → ⊥
+unfolding record_ground
 none_after d k b g = grind (arith, nat_tests)
 
 pub opened : {h : Head} {n : ℕ} {t : Stage} {rest : List ℕ} → Left h (suc n) t rest → (refusal t rest ≡ None) × Left h n (next t (kind_at rest) (body_at rest)) (behind rest)
@@ -119,7 +119,7 @@ after_end h d (suc n) left l = absurd (none_after d _ _ (front (Ended d) left (o
 
 module _ (h : Head) (n : ℕ) (p : Progress) (le : p.sections ≤ p.head.ranks) (ih : (q : Progress) (rest : List ℕ) → q.sections ≤ q.head.ranks → Left h n (Within q) rest → Parse h q rest) where
   abbrev Step : ℕ → Type 0
-  Step k = (b left : List ℕ) → length b ≡ body_size k → ground (Within p) k b ≡ None → Left h n (next (Within p) k b) left → Parse h p (k ∷ (b ++ left))
+  Step k = (b left : List ℕ) → length b ≡ body_size k → record_ground (Within p) k b ≡ None → Left h n (next (Within p) k b) left → Parse h p (k ∷ (b ++ left))
 
   at_head : Step 1
   at_head b left size g l = absurd (no_head p b g)
@@ -215,7 +215,7 @@ begins h (suc n) bytes l =
     let f = front Start bytes o.0 in
     let b = body_at bytes in
     let one = all_told (kind_at bytes) b f.sound in
-    let told = head-told b (subst (λ k. ground Start k b ≡ None) one f.sound) in
+    let told = head-told b (subst (λ k. record_ground Start k b ≡ None) one f.sound) in
     let q = parse h n (record { head = head_of b; sections = 0; due = 0 }) (behind bytes) (omega arith) o.1 in
     let start : behind bytes ≡ sections_then 0 q.sections = q.spelled ∙ ap (λ ps. pieces_then ps (sections_then 0 q.sections)) (q.begun refl) in
     let made : HasForm bytes (record { head = head_of b; pixels = all_numbered 0 q.sections }) = record {

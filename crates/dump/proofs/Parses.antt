@@ -9,7 +9,7 @@ use Rattle.dump.specs.declared.stage.Stage.{Stage}
 use Rattle.dump.specs.declared.stage.Stage.TheVariants.{Start, Within, Ended}
 use Rattle.dump.specs.Bytes.{words_in}
 use Rattle.dump.specs.Grammar.{Piece, place, pixel, pieces_then, sections_then, head_of, Upward, Sections, Limits, HasForm, Content}
-use Rattle.dump.specs.Order.{ground, next, or_else, refusal, pixel_ground, Sound, none, more}
+use Rattle.dump.specs.Order.{record_ground, next, or_else, refusal, pixel_ground, Sound, none, more}
 use Rattle.dump.specs.Records.{Known, body_size, kind_told, body_at, behind, no_record}
 use Rattle.dump.proofs.Runs.{missing-none}
 use Rattle.dump.proofs.PixelRecords.{Acts, pixel_record, some_kind}
@@ -22,16 +22,16 @@ module _ (t : Stage) (k : ℕ) (b left : List ℕ) (known : Known k) (size : len
   pub behind-same : behind (k ∷ (b ++ left)) ≡ left
   behind-same = ap (λ n. drop n (k ∷ (b ++ left))) (one-add (body_size k)) ∙ drop_at b left (body_size k) size
 
-  pub refusal-same : refusal t (k ∷ (b ++ left)) ≡ ground t k b
+  pub refusal-same : refusal t (k ∷ (b ++ left)) ≡ record_ground t k b
   unfolding refusal
   refusal-same =
       let rest = k ∷ (b ++ left) in
       let sum = length-append b left in
       let there : no_record rest ≡ None = missing-none (length rest) k (body_size k) (omega arith) known in
-      ap (λ o. or_else o (ground t k (body_at rest))) there ∙ ap (ground t k) body_same
+      ap (λ o. or_else o (record_ground t k (body_at rest))) there ∙ ap (record_ground t k) body_same
 
 -- one more sound record, whose bytes stand at the front
-pub one : {bytes : List ℕ} {t : Stage} (k : ℕ) (b left : List ℕ) → Known k → length b ≡ body_size k → ground t k b ≡ None → Sound Start bytes t (k ∷ (b ++ left)) → Sound Start bytes (next t k b) left
+pub one : {bytes : List ℕ} {t : Stage} (k : ℕ) (b left : List ℕ) → Known k → length b ≡ body_size k → record_ground t k b ≡ None → Sound Start bytes t (k ∷ (b ++ left)) → Sound Start bytes (next t k b) left
 one {bytes} {t} k b left known size sound run =
     let fine = refusal-same t k b left known size ∙ sound in
     subst (λ l. Sound Start bytes (next t k b) l) (behind-same t k b left known size)
@@ -40,20 +40,20 @@ one {bytes} {t} k b left known size sound run =
 abbrev pub at_stage : Head → ℕ → ℕ → Stage
 at_stage h r due = Within (record { head = h; sections = r; due = due })
 
-pub place-sound : (h : Head) (r due a b : ℕ) → 0 < r → due < a * 256 + b → a * 256 + b < h.pixels → ground (at_stage h r due) 3 (a ∷ b ∷ []) ≡ None
-unfolding ground
+pub place-sound : (h : Head) (r due a b : ℕ) → 0 < r → due < a * 256 + b → a * 256 + b < h.pixels → record_ground (at_stage h r due) 3 (a ∷ b ∷ []) ≡ None
+unfolding record_ground
 place-sound h r due a b some up in-tile = grind (arith, nat_tests)
 
-pub rank-sound : (h : Head) (r due : ℕ) → r < h.ranks → ground (at_stage h r due) 2 (r ∷ []) ≡ None
-unfolding ground
+pub rank-sound : (h : Head) (r due : ℕ) → r < h.ranks → record_ground (at_stage h r due) 2 (r ∷ []) ≡ None
+unfolding record_ground
 rank-sound h r due below = grind (arith, nat_tests)
 
-pub end_sound : (h : Head) (r due : ℕ) → r ≡ h.ranks → ground (at_stage h r due) 6 [] ≡ None
-unfolding ground
+pub end_sound : (h : Head) (r due : ℕ) → r ≡ h.ranks → record_ground (at_stage h r due) 6 [] ≡ None
+unfolding record_ground
 end_sound h r due all = grind (arith, nat_tests)
 
-pub head-sound : (b : List ℕ) → length b ≡ 4 → Limits (head_of b) → ground Start 1 b ≡ None
-unfolding ground
+pub head-sound : (b : List ℕ) → length b ≡ 4 → Limits (head_of b) → record_ground Start 1 b ≡ None
+unfolding record_ground
 head-sound b size limits =
     let rs = limits.ranks_in in
     let ps = limits.pixels_in in
@@ -63,7 +63,7 @@ head-sound b size limits =
 pixel_fine : (n : ℕ) (p : Progress) (b : List ℕ) → 0 < p.sections → n ≡ p.head.kind → p.due < p.head.pixels → named_lawful n (words_in b) ≡ true → pixel_ground n (Within p) b ≡ None
 pixel_fine n p b some is below law = grind (arith, nat_tests)
 
-pub pixel-sound : (h : Head) (r due k : ℕ) (b : List ℕ) → 1 ≤ named_width h.kind → 0 < r → due < h.pixels → kind_told k ≡ h.kind → length b ≡ body_size k → named_lawful h.kind (words_in b) ≡ true → Acts k × (ground (at_stage h r due) k b ≡ None)
+pub pixel-sound : (h : Head) (r due k : ℕ) (b : List ℕ) → 1 ≤ named_width h.kind → 0 < r → due < h.pixels → kind_told k ≡ h.kind → length b ≡ body_size k → named_lawful h.kind (words_in b) ≡ true → Acts k × (record_ground (at_stage h r due) k b ≡ None)
 pixel-sound h r due k b some begun below is size law =
     let acts = pixel_record k (subst (λ (n : ℕ). 1 ≤ n) (sym is) (some_kind h.kind some)) in
     let p : Progress = record { head = h; sections = r; due = due } in

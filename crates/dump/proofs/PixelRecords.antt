@@ -11,7 +11,7 @@ use Rattle.dump.specs.declared.stage.Stage.{Stage}
 use Rattle.dump.specs.declared.stage.Stage.TheVariants.{Start, Within, Ended}
 use Rattle.dump.specs.Bytes.{words_in}
 use Rattle.dump.specs.Grammar.{Placed}
-use Rattle.dump.specs.Order.{ground, next, onward, pixel_ground}
+use Rattle.dump.specs.Order.{record_ground, next, onward, pixel_ground}
 use Rattle.dump.specs.Pixels.{placed}
 use Rattle.dump.specs.Records.{Known, body_size, kind_told}
 
@@ -19,16 +19,16 @@ use Rattle.dump.specs.Records.{Known, body_size, kind_told}
 pub record Acts (k : ℕ) : Type 0 where
   pub known : Known k
   pub size_is : body_size k ≡ 4 * named_width (kind_told k)
-  pub ground-is : (s : Stage) (b : List ℕ) → length b ≡ body_size k → ground s k b ≡ pixel_ground (kind_told k) s b
+  pub ground-is : (s : Stage) (b : List ℕ) → length b ≡ body_size k → record_ground s k b ≡ pixel_ground (kind_told k) s b
   pub next-is : (p : Progress) (b : List ℕ) → next (Within p) k b ≡ onward (Within p)
   pub placed-is : (p : Progress) (b : List ℕ) → placed (Within p) k b ≡ record { rank = p.sections - 1; number = p.due; words = words_in b } ∷ []
 
 pub near_acts : Acts 4
-unfolding ground
+unfolding record_ground
 near_acts = record { known = (omega arith, omega arith); size_is = refl; ground-is = λ s b size. rw (eq-eqb (length b) 8 size); next-is = λ p b. refl; placed-is = λ p b. refl }
 
 pub cover_acts : Acts 5
-unfolding ground
+unfolding record_ground
 cover_acts = record { known = (omega arith, omega arith); size_is = refl; ground-is = λ s b size. rw (eq-eqb (length b) 20 size); next-is = λ p b. refl; placed-is = λ p b. refl }
 
 which : (k : ℕ) → 1 ≤ kind_told k → (k ≡ 4) ⊎ (k ≡ 5)
@@ -46,7 +46,7 @@ same_answer k acts Start b = refl
 same_answer k acts (Within p) b = ap (answered (pixel_ground (kind_told k) (Within p) b)) (sym (acts.next-is p b))
 same_answer k acts (Ended h) b = refl
 
-pub admitted : (k : ℕ) (acts : Acts k) (s : Stage) (b : List ℕ) (r : Result Stage Ground) → length b ≡ body_size k → r ≡ answered (pixel_ground (kind_told k) s b) (onward s) → r ≡ answered (ground s k b) (next s k b)
+pub admitted : (k : ℕ) (acts : Acts k) (s : Stage) (b : List ℕ) (r : Result Stage Ground) → length b ≡ body_size k → r ≡ answered (pixel_ground (kind_told k) s b) (onward s) → r ≡ answered (record_ground s k b) (next s k b)
 admitted k acts s b r size e = e ∙ same_answer k acts s b ∙ ap (λ o. answered o (next s k b)) (sym (acts.ground-is s b size))
 
 -- the answers to a pixel of kind n within a section of that kind

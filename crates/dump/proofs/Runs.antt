@@ -10,7 +10,7 @@ use Rattle.dump.specs.declared.reader.Record.TheVariants.{Head, Rank, Place, Nea
 use Rattle.dump.specs.declared.reader.Item.{Item}
 use Rattle.dump.specs.declared.stage.Stage.{Stage}
 use Rattle.dump.specs.declared.stage.Stage.TheVariants.{Start}
-use Rattle.dump.specs.Order.{ground, next, or_else, refusal, Sound, none, more}
+use Rattle.dump.specs.Order.{record_ground, next, or_else, refusal, Sound, none, more}
 use Rattle.dump.specs.Records.{Known, body_size, kind_of, body_of, bytes_of, kind_at, body_at, behind, no_record, Leads, Stands}
 
 known : (r : Record) → Known (kind_of r)
@@ -46,9 +46,9 @@ module _ {r : Record} {rest : List ℕ} (l : Leads r rest) where
       let some : 1 + body_size (kind_at rest) ≤ length rest = omega arith in
       missing-none (length rest) (kind_at rest) (body_size (kind_at rest)) some (subst Known (sym e) k)
 
-  pub refusal-there : (s : Stage) → refusal s rest ≡ ground s (kind_of r) (body_of r)
+  pub refusal-there : (s : Stage) → refusal s rest ≡ record_ground s (kind_of r) (body_of r)
   unfolding refusal
-  refusal-there s = ap (λ o. or_else o (ground s (kind_at rest) (body_at rest))) there ∙ ap₂ (ground s) kind_is body_is
+  refusal-there s = ap (λ o. or_else o (record_ground s (kind_at rest) (body_at rest))) there ∙ ap₂ (record_ground s) kind_is body_is
 
   pub next-there : (s : Stage) → next s (kind_at rest) (body_at rest) ≡ next s (kind_of r) (body_of r)
   next-there s = ap₂ (next s) kind_is body_is
@@ -58,9 +58,9 @@ module _ {r : Record} {rest : List ℕ} (l : Leads r rest) where
 
 pub refusal-missing : (s : Stage) (rest : List ℕ) (g : Ground) → no_record rest ≡ Some g → refusal s rest ≡ Some g
 unfolding refusal
-refusal-missing s rest g h = ap (λ o. or_else o (ground s (kind_at rest) (body_at rest))) h
+refusal-missing s rest g h = ap (λ o. or_else o (record_ground s (kind_at rest) (body_at rest))) h
 
-pub step : (bytes : List ℕ) (at after : ℕ) (item : Item) (s t : Stage) → Stands bytes at item after → Sound Start bytes s (drop at bytes) → ground s (kind_of item.content) (body_of item.content) ≡ None → t ≡ next s (kind_of item.content) (body_of item.content) → Sound Start bytes t (drop after bytes)
+pub step : (bytes : List ℕ) (at after : ℕ) (item : Item) (s t : Stage) → Stands bytes at item after → Sound Start bytes s (drop at bytes) → record_ground s (kind_of item.content) (body_of item.content) ≡ None → t ≡ next s (kind_of item.content) (body_of item.content) → Sound Start bytes t (drop after bytes)
 step bytes at after item s t h run sound to =
     let l = h.leads in
     let one = more run (refusal-there l s ∙ sound) in

@@ -60,8 +60,8 @@ end_ground (Within p) = first ((WrongRank, nat_lt p.sections p.head.ranks) ∷ [
 end_ground (Ended h) = Some OutOfPlace
 
 -- the ground on which a record of kind k with body b is refused at a stage, if any
-unfoldable pub ground : Stage → ℕ → List ℕ → Option Ground
-ground s k b =
+unfoldable pub record_ground : Stage → ℕ → List ℕ → Option Ground
+record_ground s k b =
     whole k b
     (cond (k == 1) (head_ground s b)
     (cond (k == 2) (rank_ground s b)
@@ -89,7 +89,7 @@ or_else None o = o
 
 -- the ground on which what stands at the front is refused at a stage, if any
 unfoldable pub refusal : Stage → List ℕ → Option Ground
-refusal s rest = or_else (no_record rest) (ground s (kind_at rest) (body_at rest))
+refusal s rest = or_else (no_record rest) (record_ground s (kind_at rest) (body_at rest))
 
 -- sound records lead from a stage at the front of some bytes to a stage at the front of what is left of them
 pub data Sound (s : Stage) (bytes : List ℕ) : Stage → List ℕ → Type 0 where

@@ -17,24 +17,24 @@ fn last_rank(sections: u32) -> u32
 }
 
 // The rank that a fault tells.
-fn rank_told(stage: Stage, ground: Ground) -> u32
-    ensures { result ≡ rank_told stage ground }
+fn rank_told(stage: Stage, cause: Ground) -> u32
+    ensures { result ≡ rank_told stage cause }
 {
     match stage {
         Stage::Start => NO_RANK,
-        Stage::Within(p) if ground.number() == 4 => p.sections,
+        Stage::Within(p) if cause.number() == 4 => p.sections,
         Stage::Within(p) => last_rank(p.sections),
         Stage::Ended(head) => last_rank(head.ranks),
     }
 }
 
 // The fault of the record at `place`.
-fn fault_at(stage: Stage, ground: Ground, place: usize) -> Fault
-    ensures { result ≡ Dump ground (rank_told stage ground) place }
+fn fault_at(stage: Stage, cause: Ground, place: usize) -> Fault
+    ensures { result ≡ Dump cause (rank_told stage cause) place }
 {
     Fault::Dump {
-        ground,
-        rank: rank_told(stage, ground),
+        ground: cause,
+        rank: rank_told(stage, cause),
         place,
     }
 }

@@ -3,7 +3,7 @@ ghost use Rattle.std.specs.Prelude.{◌≡◌, ◌+◌, ◌*◌, ◌<◌, ◌≤
 ghost use Rattle.tile.specs.Answers.{answered};
 ghost use Rattle.tile.specs.Named.{named_width};
 ghost use Rattle.dump.specs.Records.{body_of, body_size, kind_of};
-ghost use Rattle.dump.specs.Order.{end_ground, ground, head_ground, next, onward, pixel_ground, place_ground, rank_ground, whole};
+ghost use Rattle.dump.specs.Order.{end_ground, head_ground, next, onward, pixel_ground, place_ground, rank_ground, record_ground, whole};
 
 use crate::reader::Record;
 use crate::stage::{Head, Progress, Stage};
@@ -149,7 +149,7 @@ fn at_pixel<P: Pixel>(stage: Stage, body: &[u8]) -> Result<Stage, Ground>
 // The stage behind a record, or the ground on which it is refused.
 pub(crate) fn admit(stage: Stage, found: Record) -> Result<Stage, Ground>
     requires { length (body_of found) ≡ body_size (kind_of found) }
-    ensures { result ≡ answered (ground stage (kind_of found.entry) (body_of found.entry)) (next stage (kind_of found.entry) (body_of found.entry)) }
+    ensures { result ≡ answered (record_ground stage (kind_of found.entry) (body_of found.entry)) (next stage (kind_of found.entry) (body_of found.entry)) }
 {
     match found {
         Record::Head(body) => at_head(stage, body),

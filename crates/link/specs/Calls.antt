@@ -8,17 +8,17 @@ use Rattle.link.specs.Model.{LinkModel, Empty, Holds, is_empty, is_spoilt, messa
 
 -- the ground where the test holds, else the next that applies
 abbrev pub first : Bool → Ground → Option Ground → Option Ground
-first test ground rest = cond test (Some ground) rest
+first test g rest = cond test (Some g) rest
 
 -- `a` where no ground applies, else the fault, which names the receiver
 abbrev pub answered : {A : Type 0} → Option Ground → ℕ → A → Result A Fault
 answered None to a = Ok a
-answered (Some ground) to a = Err (Link ground to)
+answered (Some g) to a = Err (Link g to)
 
 -- what is left after a call: `new` where no ground applies, else `old`
 abbrev pub kept : {A : Type 0} → Option Ground → A → A → A
 kept None new old = new
-kept (Some ground) new old = old
+kept (Some g) new old = old
 
 -- whether a message may have so many words
 abbrev pub is_length : ℕ → ℕ → Bool

@@ -8,7 +8,7 @@ use Rattle.link.specs.Calls.{first, send_ground, answered, kept, filled_with}
 
 -- the first of two grounds, if any
 abbrev pub or_else : Option Ground → Option Ground → Option Ground
-or_else (Some ground) rest = Some ground
+or_else (Some g) rest = Some g
 or_else None rest = rest
 
 -- the grounds of send, then that the area is too short

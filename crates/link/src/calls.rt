@@ -7,10 +7,13 @@ ghost use Rattle.link.specs.Model.{is_pair};
 use tile::fault::{Fault, Ground};
 
 // The fault of a call with this receiver.
-pub fn link_fault(ground: Ground, to: u32) -> Fault
-    ensures { result ≡ LinkFault ground to }
+pub fn link_fault(cause: Ground, to: u32) -> Fault
+    ensures { result ≡ LinkFault cause to }
 {
-    Fault::Link { ground, rank: to }
+    Fault::Link {
+        ground: cause,
+        rank: to,
+    }
 }
 
 // Whether the two are different ranks below `ranks`.

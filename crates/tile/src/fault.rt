@@ -134,11 +134,11 @@ impl Fault {
 }
 
 // A refusal that concerns no rank.
-pub fn unranked(ground: Ground) -> Fault
-    ensures { result ≡ unranked ground }
+pub fn unranked(cause: Ground) -> Fault
+    ensures { result ≡ unranked cause }
 {
     Fault::Call {
-        ground,
+        ground: cause,
         rank: NO_RANK,
     }
 }

@@ -6,10 +6,10 @@ use crate::fault::{Fault, Ground, NO_RANK};
 use std::fmt;
 
 // What the ground means, in a few words.
-pub fn sentence_of(ground: Ground) -> &'static str
-    ensures { result.now ≡ sentence ground }
+pub fn sentence_of(cause: Ground) -> &'static str
+    ensures { result.now ≡ sentence cause }
 {
-    match ground {
+    match cause {
         Ground::UnknownRecord => "unknown record kind",
         Ground::CutShort => "dump cut short",
         Ground::OutOfPlace => "record out of place",

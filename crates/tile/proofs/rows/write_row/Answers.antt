@@ -53,7 +53,7 @@ loop-i-preserved g c =
     let within : i ≤ length row = omega arith in
     let front = length-words m laws (take i row) ∙ ap₂ ◌*◌ (length-take-le i row within) (sym c.width-width.ensures) in
     let wide = laws.words-length c.from_record.result ∙ sym c.width-width.ensures in
-    let more = words_more m laws row i c.index-row-i.result c.from_record.result c.loop-i-test.true c.index-row-i.is c.from_record.ensures in
+    let more : row_words m (take (i + 1) row) ≡ row_words m (take i row) ++ m.words c.from_record.result = search (rules, words_more m laws row i) in
     let next : i * w + w ≡ (i + 1) * w = omega (arith, add-mul i 1 w) in
     written-more (row_words m (take i row)) (m.words c.from_record.result) c.args.out.now c.loop-i.out c.write.new.out (i * w) w front wide c.loop-i.invariant c.in_ok-write.ensures.1
     ∙ ap₂ (λ a n. a ++ drop n c.args.out.now) (sym more) next

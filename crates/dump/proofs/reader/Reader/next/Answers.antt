@@ -19,13 +19,12 @@ pub returns : goal.returns
 returns c =
     let same = c.in-Some.ensures.lookup.0.2 ∙ to_end c.args.self.now.bytes.now c.args.self.now.at in
     let stands = subst (Leads c.in_ok-content.content) same c.in_ok-content.ensures in
-    let size = c.size.ensures in
     record {
       bytes = refl;
       read = record {
         offset = refl;
         leads = stands;
-        next = ap (λ n. c.args.self.now.at + n) size;
+        next = omega arith;
         within = omega (arith, ends-within c.in_ok-content.content c.args.self.now.bytes.now c.args.self.now.at stands);
       };
     }
