@@ -32,7 +32,15 @@ def own_names():
     for path in files("specs/**/*.antt", "proofs/**/*.antt"):
         if path.endswith("Invariants.antt"):
             continue
+        record = None
         for line in open(path, encoding="utf-8"):
+            # the lines below a record's head, further in, are its fields
+            if line.strip():
+                depth = len(line) - len(line.lstrip())
+                if record is not None and depth <= record:
+                    record = None
+                if re.match(r"\s*(pub )?record .* where$", line):
+                    record = depth
             m = DEFINED.match(line)
             if not m or line.lstrip().startswith("--"):
                 continue
@@ -40,7 +48,7 @@ def own_names():
             if kind.startswith("goal.") or "record" in m["mods"] or "data" in m["mods"]:
                 continue
             # a fact about values, and no value
-            lemma = bool(re.search(r"≡|≤|<|↔|⊥|×|⊎", kind)) and "abbrev" not in m["mods"]
+            lemma = bool(re.search(r"≡|≤|<|↔|⊥|×|⊎", kind)) and "abbrev" not in m["mods"] and record is None
             found.setdefault(m["name"], []).append((lemma, path))
     return found
 

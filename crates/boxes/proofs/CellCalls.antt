@@ -1,14 +1,14 @@
 -- The calls of the cell link. Assumes nothing.
-use Rattle.std.proofs.Common.{◌≡◌, ℕ, ◌+◌, ◌<◌, ◌≤◌, Bool, true, false, cond, not, eqb, leb, List, ◌++◌, length, get_or, take, drop, set, Ok, Err, sym, refl, ap, ◌∙◌, subst, arith, length-drop, length-take}
+use Rattle.std.proofs.Common.{◌≡◌, ℕ, ◌+◌, ◌<◌, ◌≤◌, true, false, not, eqb, List, ◌++◌, length, get_or, take, drop, set, Ok, Err, sym, ap, ◌∙◌, subst, arith, length-drop, length-take}
 use lib.Seq.{paste}
 use Rattle.boxes.proofs.Cells as cells
 use Rattle.boxes.proofs.Cells.{box_at, box-is, place-within, cells_filled, cells_cleared}
 use Rattle.boxes.specs.CellState.{cell_link_model}
-use Rattle.boxes.specs.Cells.{cell_words, place, cell_model}
+use Rattle.boxes.specs.Cells.{place, cell_model}
 use Rattle.boxes.specs.declared.cell.CellLink.{CellLink}
 use Rattle.link.proofs.Links as links
 use Rattle.link.specs.Calls.{is_length, filled_with, Send, Read, Clear, Waiting}
-use Rattle.link.specs.Model.{LinkModel, BoxState, Empty, Holds, Spoilt, is_empty, is_pair, put, LinkLaws}
+use Rattle.link.specs.Model.{LinkModel, Empty, Holds, is_empty, is_pair, put, LinkLaws}
 use Rattle.std.proofs.lemmas.Bool.Decides.{nat_tests}
 use Rattle.tile.specs.declared.fault.Fault.TheVariants.{Link}
 use Rattle.tile.specs.declared.fault.Ground.TheVariants.{BoxTaken, BoxEmpty, Spoilt as SpoiltMessage}

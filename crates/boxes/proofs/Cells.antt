@@ -1,12 +1,12 @@
 -- Boxes that lie one after the other in memory. Assumes nothing.
-use Rattle.std.proofs.Common.{◌≡◌, ℕ, zero, suc, ◌+◌, ◌-◌, ◌*◌, ◌<◌, ◌≤◌, Bool, true, false, cond, not, ◌&&◌, eqb, ltb, leb, ◌⊎◌, List, [], ◌∷◌, ◌++◌, length, get_or, take, drop, set, replicate, sym, refl, ap, ◌∙◌, inl, inr, add-mul, one-mul, add-one, arith, length-drop, length-take}
+use Rattle.std.proofs.Common.{◌≡◌, ℕ, zero, suc, ◌+◌, ◌-◌, ◌*◌, ◌<◌, ◌≤◌, Bool, true, false, cond, eqb, leb, ◌⊎◌, List, [], ◌∷◌, ◌++◌, length, get_or, take, drop, set, replicate, sym, refl, ap, ◌∙◌, inl, inr, add-mul, one-mul, add-one, arith, length-drop, length-take}
 use lib.Seq.{paste}
 use borrow.Rule.Slice.PartMut.{put_mid}
 use Rattle.boxes.specs.Cells.{cell_words, place, cell, box_of, cell_model}
 use Rattle.boxes.specs.Sizes.{WordsBelow}
 use Rattle.boxes.proofs.Within.{part-below}
 use Rattle.link.proofs.Links.{same_link}
-use Rattle.link.specs.Model.{LinkModel, BoxState, Empty, Holds, Spoilt, is_pair, changed, put, vacant, Allowed, LinkLaws}
+use Rattle.link.specs.Model.{BoxState, Empty, Holds, Spoilt, is_pair, changed, put, vacant, Allowed, LinkLaws}
 use Rattle.std.proofs.lemmas.Nat.{mul-le, mul-add-lt, div-mul-add, mod-mul-add}
 use Rattle.std.proofs.lemmas.List.Edits.{paste_none, paste_more, paste-paste}
 use Rattle.std.proofs.lemmas.List.{append_assoc, length-append, length-take-le, drop-take, drop_more, take_all, take_at, take-take, take-append-drop, drop-drop, drop-append-le, drop-replicate}

@@ -1,10 +1,10 @@
 -- The calls of the line link. Assumes nothing.
-use Rattle.std.proofs.Common.{◌≡◌, ℕ, zero, suc, ◌+◌, ◌-◌, ◌*◌, ◌<◌, ◌≤◌, Bool, true, false, cond, not, ◌&&◌, eqb, ltb, leb, List, [], ◌∷◌, ◌++◌, length, get_or, take, drop, Ok, Err, Result, sym, refl, ap, ◌∙◌, subst, mul_comm, arith, lit<}
+use Rattle.std.proofs.Common.{◌≡◌, ℕ, zero, suc, ◌+◌, ◌-◌, ◌*◌, ◌<◌, ◌≤◌, Bool, true, false, cond, eqb, ltb, List, [], ◌∷◌, ◌++◌, length, get_or, take, drop, Ok, Err, Result, sym, refl, ap, ◌∙◌, subst, mul_comm, arith, lit<}
 use Rattle.std.proofs.lemmas.Nat.{mul-le, mul-add-lt, div-mul-add, mod-mul-add}
 use Rattle.std.proofs.lemmas.List.{append-nil, length-take-le, take-take, get_or-take, drop-take}
 use Rattle.std.proofs.lemmas.Bool.Decides.{nat_tests}
 use Rattle.tile.specs.declared.fault.Fault.{Fault}
-use Rattle.link.specs.Model.{LinkModel, BoxState, Empty, Holds, Spoilt, is_empty, message, is_pair, changed, put, vacant, Allowed, LinkLaws}
+use Rattle.link.specs.Model.{LinkModel, BoxState, Empty, Holds, is_empty, message, is_pair, changed, put, vacant, Allowed, LinkLaws}
 use Rattle.boxes.specs.LineState.{used_words, queue, line_link_model}
 use Rattle.boxes.specs.declared.line.LineLink.{LineLink}
 use Rattle.link.specs.Calls.{is_length, filled_with, Send, Read, Clear, Waiting}
@@ -15,7 +15,7 @@ use Rattle.link.proofs.WordLaws.{cons_words, append_words, take_words, drop_word
 use Rattle.tile.specs.Words.{AreWords}
 use Rattle.tile.specs.declared.fault.Fault.TheVariants.{Link}
 use Rattle.tile.specs.declared.fault.Ground.TheVariants.{BoxTaken, BoxEmpty}
-use Rattle.boxes.proofs.Lines.{entries_of, lookup_empty, spelt_of, good_of, spelled_append, lookup_add, good_add, good_front, lookup_removed-other, lookup-removed, good_removed, room_for, Split, Found, missing, found}
+use Rattle.boxes.proofs.Lines.{entries_of, lookup_empty, spelt_of, good_of, spelled_append, lookup_add, good_add, good_front, lookup_removed-other, lookup-removed, good_removed, room_for, Found, missing, found}
 
 -- The numbers of the boxes.
 column : (n from to : ℕ) → is_pair n from to ≡ true → (from < n) × (cond (ltb to from) to (to - 1) < n - 1)
@@ -209,7 +209,7 @@ module _ (s : LineLink) (from to at : ℕ) (pair : is_pair s.ranks from to ≡ t
       send_taken = links.send_taken (line_link_model s) from to pair m fits (taken h)
 
       pub send_taken_order : Queued (line_link_model s) from to m (queue s) (queue s)
-      send_taken_order = let g = links.taken-ground (line_link_model s) from to pair (length m) fits (taken h) in rw g
+      send_taken_order = let g = links.taken_ground (line_link_model s) from to pair (length m) fits (taken h) in rw g
 
     abbrev sent : Entry
     sent = record { box = box_number n from to; message = m }

@@ -1,5 +1,5 @@
 -- Words within a part of memory. Assumes nothing.
-use Rattle.std.proofs.Common.{ℕ, zero, suc, ◌+◌, ◌^◌, ◌<◌, List, [], ◌∷◌, get_or, take, drop, set, sym, subst, arith, lit<}
+use Rattle.std.proofs.Common.{ℕ, zero, suc, ◌+◌, ◌^◌, ◌<◌, List, [], ◌∷◌, get_or, take, drop, set, arith, lit<}
 use Rattle.boxes.specs.Sizes.{WordsBelow}
 use Rattle.std.proofs.lemmas.List.{get_or-drop}
 use Rattle.tile.specs.Words.{AreWords}

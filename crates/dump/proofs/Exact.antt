@@ -1,5 +1,5 @@
 -- Bytes have the form and hold one content, or fail with one fault, and never both. Assumes nothing.
-use Rattle.std.proofs.Common.{◌≡◌, ℕ, zero, suc, ◌-◌, true, false, List, [], ◌∷◌, length, Some, None, Option, sym, refl, ap, ◌∙◌, subst, ap₂, arith}
+use Rattle.std.proofs.Common.{◌≡◌, ℕ, zero, suc, ◌-◌, false, List, [], length, Some, None, Option, sym, refl, ap, ◌∙◌, arith}
 use borrow.Author.Tests.{clash}
 use Rattle.tile.specs.declared.fault.Fault.{Fault}
 use Rattle.tile.specs.declared.fault.Fault.TheVariants.{Dump}
@@ -14,7 +14,7 @@ use Rattle.dump.specs.Records.{kind_at, body_at, behind}
 use Rattle.dump.proofs.Held.{form-held, at_end}
 use Rattle.dump.proofs.Limits.{all_inside}
 use Rattle.dump.proofs.Rising.{all_rising}
-use Rattle.dump.proofs.Parsed.{Left, done, then, join, opened, ended, end_same, reads_form}
+use Rattle.dump.proofs.Parsed.{Left, done, join, opened, ended, end_same, reads_form}
 use Rattle.dump.proofs.Parses.{form_reads}
 
 -- at the end there is no record
@@ -80,11 +80,11 @@ later (on f l) = (f, l)
 some-none : (o : Option Ground) (g : Ground) → o ≡ Some g → o ≡ None → ⊥
 some-none o g p q = let z : ◌≡◌ {A = ℕ} 0 1 = cc in omega arith
 
-one-ground : (o : Option Ground) (g h : Ground) → o ≡ Some g → o ≡ Some h → g ≡ h
-one-ground o g h p q = cc
+one_ground : (o : Option Ground) (g h : Ground) → o ≡ Some g → o ≡ Some h → g ≡ h
+one_ground o g h p q = cc
 
 same_stop : (n m : ℕ) (s : Stage) (bytes : List ℕ) (e d : Stage) (z y : List ℕ) (g h : Ground) → Stuck e z g n s bytes → Stuck d y h m s bytes → (e ≡ d) × (z ≡ y) × (g ≡ h)
-same_stop zero zero s bytes e d z y g h l k = let a = at_once l in let b = at_once k in (a.0 ∙ sym b.0, a.1 ∙ sym b.1, one-ground _ g h a.2 b.2)
+same_stop zero zero s bytes e d z y g h l k = let a = at_once l in let b = at_once k in (a.0 ∙ sym b.0, a.1 ∙ sym b.1, one_ground _ g h a.2 b.2)
 same_stop zero (suc m) s bytes e d z y g h l k = absurd (some-none _ g (at_once l).2 (later k).0)
 same_stop (suc n) zero s bytes e d z y g h l k = absurd (some-none _ h (at_once k).2 (later l).0)
 same_stop (suc n) (suc m) s bytes e d z y g h l k = same_stop n m _ _ e d z y g h (later l).1 (later k).1

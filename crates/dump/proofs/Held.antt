@@ -7,9 +7,9 @@ use Rattle.tile.specs.Named.{named_width}
 use Rattle.dump.specs.declared.stage.Head.{Head}
 use Rattle.dump.specs.declared.stage.Progress.{Progress}
 use Rattle.dump.specs.declared.stage.Stage.{Stage}
-use Rattle.dump.specs.declared.stage.Stage.TheVariants.{Start, Within, Ended}
+use Rattle.dump.specs.declared.stage.Stage.TheVariants.{Start, Ended}
 use Rattle.dump.specs.declared.reader.Item.{Item}
-use Rattle.dump.specs.Grammar.{Piece, place, pixel, pieces_then, sections_then, head_of, Upward, Sections, Limits, HasForm, Content, Placed, numbered, all_numbered}
+use Rattle.dump.specs.Grammar.{Piece, place, pixel, pieces_then, sections_then, Upward, Sections, Limits, HasForm, Content, Placed, numbered, all_numbered}
 use Rattle.dump.specs.Order.{record_ground, next, refusal}
 use Rattle.dump.specs.Pixels.{if_sound, placed, pixels_by, pixels_from, pixels_in}
 use Rattle.dump.specs.Records.{Known, body_size, kind_of, body_of, kind_at, body_at, behind, no_record, Stands}
@@ -86,7 +86,7 @@ module _ (h : Head) (kinds : 1 ≤ named_width h.kind) where
       let s = pixel-sound h r due k b kinds some up.0 up.1 up.2 up.3 in (
         more.0,
         one (at_stage h r due) k b (pieces_then ps left) s.0.known up.2 s.1
-            ∙ ap₂ (λ (qs : List Placed) (t : Stage). qs ++ pixels_from t (pieces_then ps left)) (s.0.placed-is p b) (s.0.next-is p b)
+            ∙ ap₂ (λ (qs : List Placed) (t : Stage). qs ++ pixels_from t (pieces_then ps left)) (s.0.placed_is p b) (s.0.next_is p b)
             ∙ ap (λ (qs : List Placed). numbered (r - 1) due (pixel k b ∷ []) ++ qs) more.1,
       )
 
@@ -103,9 +103,9 @@ module _ (h : Head) (kinds : 1 ≤ named_width h.kind) where
 pub form-held : (bytes : List ℕ) (c : Content) → HasForm bytes c → pixels_in bytes ≡ c.pixels
 form-held bytes c f =
     let b = f.body in
-    let sound = head-sound b f.size (subst Limits (sym f.head-is) f.limits) in
+    let sound = head-sound b f.size (subst Limits (sym f.head_is) f.limits) in
     ap pixels_in f.spelled
     ∙ one Start 1 b (sections_then 0 f.sections) (omega arith, omega arith) f.size sound
-    ∙ ap (λ (x : Head). pixels_from (at_stage x 0 0) (sections_then 0 f.sections)) f.head-is
+    ∙ ap (λ (x : Head). pixels_from (at_stage x 0 0) (sections_then 0 f.sections)) f.head_is
     ∙ sections-held c.head f.limits.kind_in 0 0 f.sections (omega (arith, f.all)) f.each
     ∙ sym f.holds

@@ -1,5 +1,5 @@
 -- The test of a body's words tells the pixels of the kind. Assumes nothing.
-use Rattle.std.proofs.Common.{◌≡◌, ℕ, ◌*◌, ◌/◌, ◌<◌, ◌≤◌, Bool, true, false, List, length, is_some, Some, None, Option, sym, refl, ap, ◌∙◌, subst, arith, le-leb}
+use Rattle.std.proofs.Common.{◌≡◌, ℕ, ◌*◌, ◌<◌, ◌≤◌, Bool, true, false, List, length, is_some, Some, None, Option, sym, refl, ap, ◌∙◌, arith, le-leb}
 use Rattle.std.proofs.lemmas.Bool.{cond-true}
 use Rattle.std.proofs.lemmas.Bool.Decides.{nat_tests}
 use Rattle.tile.specs.Kinds.{Kind, KindLaws}
@@ -21,7 +21,7 @@ module _ {P R : Type 0} (m : Kind P R) (laws : KindLaws m) (named : 0 < named_wi
   reads-told ws (Some p) long are e = sym ((laws.named named).allowed ws (p, laws.read_only ws p (sym e)))
   reads-told ws None long are e =
       sym (not-true (named_lawful m.number ws) (λ t.
-      let q = (laws.named named).all-allowed ws (long ∙ sym (laws.named named).same_width) are t in
+      let q = (laws.named named).all_allowed ws (long ∙ sym (laws.named named).same_width) are t in
       let got : None ≡ Some q.0 = e ∙ ap m.reads (sym q.1) ∙ laws.read_back q.0 in
       let z : ◌≡◌ {A = ℕ} 0 1 = cc in
       omega arith))

@@ -1,9 +1,8 @@
 -- What a run of sound records up to END is by the grammar. Assumes nothing.
-use Rattle.std.proofs.Common.{◌≡◌, ℕ, zero, suc, ◌+◌, ◌*◌, ◌<◌, ◌≤◌, true, ◌⊎◌, List, [], ◌∷◌, ◌++◌, length, get_or, take, drop, Some, None, Option, sym, refl, ap, ◌∙◌, subst, ap₂, ⊎_elim, one-add, arith, take-append-drop, length-take-le}
+use Rattle.std.proofs.Common.{◌≡◌, ℕ, zero, suc, ◌+◌, ◌*◌, ◌<◌, ◌≤◌, true, ◌⊎◌, List, [], ◌∷◌, ◌++◌, length, get_or, take, drop, Some, None, Option, sym, refl, ap, ◌∙◌, subst, ⊎_elim, one-add, arith, take-append-drop, length-take-le}
 use Rattle.std.proofs.lemmas.Bool.Decides.{nat_tests}
 use Rattle.tile.specs.declared.fault.Ground.{Ground}
-use Rattle.tile.specs.declared.fault.Ground.TheVariants.{CutShort}
-use Rattle.tile.specs.Named.{named_width, named_lawful}
+use Rattle.tile.specs.Named.{named_lawful}
 use Rattle.dump.specs.declared.stage.Head.{Head}
 use Rattle.dump.specs.declared.stage.Progress.{Progress}
 use Rattle.dump.specs.declared.stage.Stage.{Stage}
@@ -11,7 +10,6 @@ use Rattle.dump.specs.declared.stage.Stage.TheVariants.{Start, Within, Ended}
 use Rattle.dump.specs.Bytes.{half, words_in}
 use Rattle.dump.specs.Grammar.{Piece, place, pixel, pieces_then, sections_then, head_of, Upward, Sections, Limits, HasForm, Placed, all_numbered}
 use Rattle.dump.specs.Order.{record_ground, next, or_else, refusal, pixel_ground, Sound, none, more}
-use Rattle.dump.specs.Pixels.{pixels_in}
 use Rattle.dump.specs.Reading.{holding}
 use Rattle.dump.specs.Records.{Known, body_size, kind_told, kind_at, body_at, behind, no_record}
 use Rattle.dump.proofs.Runs.{missing}
@@ -161,8 +159,8 @@ module _ (h : Head) (n : ℕ) (p : Progress) (le : p.sections ≤ p.head.ranks) 
 
   at_pixel : (k : ℕ) → Acts k → Step k
   at_pixel k acts b left size g l =
-      let told = pixel-told (kind_told k) p b (sym (acts.ground-is (Within p) b size) ∙ g) in
-      let r = ih (record { head = p.head; sections = p.sections; due = p.due + 1 }) left le (subst (λ (t : Stage). Left h n t left) (acts.next-is p b) l) in
+      let told = pixel-told (kind_told k) p b (sym (acts.ground_is (Within p) b size) ∙ g) in
+      let r = ih (record { head = p.head; sections = p.sections; due = p.due + 1 }) left le (subst (λ (t : Stage). Left h n t left) (acts.next_is p b) l) in
       record {
         same = r.same;
         pieces = pixel k b ∷ r.pieces;
@@ -223,7 +221,7 @@ begins h (suc n) bytes l =
       sections = q.sections;
       spelled = f.split ∙ ap (λ k. k ∷ (b ++ behind bytes)) one ∙ ap (λ l. 1 ∷ (b ++ l)) start;
       size = f.size ∙ ap body_size one;
-      head-is = refl;
+      head_is = refl;
       limits = told;
       all = omega (arith, q.all);
       each = q.each;

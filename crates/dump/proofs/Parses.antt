@@ -1,5 +1,5 @@
 -- Bytes of the form are a run of sound records. Assumes nothing.
-use Rattle.std.proofs.Common.{◌≡◌, ℕ, ◌+◌, ◌*◌, ◌<◌, ◌≤◌, true, List, [], ◌∷◌, ◌++◌, length, drop, None, sym, refl, ap, ◌∙◌, subst, one-add, arith, length-append, eq-eqb}
+use Rattle.std.proofs.Common.{◌≡◌, ℕ, ◌+◌, ◌*◌, ◌<◌, ◌≤◌, true, List, [], ◌∷◌, ◌++◌, length, drop, None, sym, refl, ap, ◌∙◌, subst, one-add, arith, length-append}
 use Rattle.std.proofs.lemmas.List.{take_at, drop_at}
 use Rattle.std.proofs.lemmas.Bool.Decides.{nat_tests}
 use Rattle.tile.specs.Named.{named_width, named_lawful}
@@ -67,7 +67,7 @@ pub pixel-sound : (h : Head) (r due k : ℕ) (b : List ℕ) → 1 ≤ named_widt
 pixel-sound h r due k b some begun below is size law =
     let acts = pixel_record k (subst (λ (n : ℕ). 1 ≤ n) (sym is) (some_kind h.kind some)) in
     let p : Progress = record { head = h; sections = r; due = due } in
-    (acts, acts.ground-is (Within p) b size ∙ pixel_fine (kind_told k) p b begun is below (ap (λ n. named_lawful n (words_in b)) is ∙ law))
+    (acts, acts.ground_is (Within p) b size ∙ pixel_fine (kind_told k) p b begun is below (ap (λ n. named_lawful n (words_in b)) is ∙ law))
 
 module _ (bytes : List ℕ) (h : Head) (kinds : 1 ≤ named_width h.kind) where
   pieces-read : (r due : ℕ) (ps : List Piece) (left : List ℕ) → 0 < r → Upward h due ps → Sound Start bytes (at_stage h r due) (pieces_then ps left) → (d : ℕ) × Sound Start bytes (at_stage h r d) left
@@ -76,7 +76,7 @@ module _ (bytes : List ℕ) (h : Head) (kinds : 1 ≤ named_width h.kind) where
       pieces-read r (a * 256 + b) ps left some up.2 (one 3 (a ∷ b ∷ []) (pieces_then ps left) (omega arith, omega arith) refl (place-sound h r due a b some up.0 up.1) run)
   pieces-read r due (pixel k b ∷ ps) left some up run =
       let s = pixel-sound h r due k b kinds some up.0 up.1 up.2 up.3 in
-      pieces-read r (due + 1) ps left some up.4 (subst (λ t. Sound Start bytes t (pieces_then ps left)) (s.0.next-is _ b) (one k b (pieces_then ps left) s.0.known up.2 s.1 run))
+      pieces-read r (due + 1) ps left some up.4 (subst (λ t. Sound Start bytes t (pieces_then ps left)) (s.0.next_is _ b) (one k b (pieces_then ps left) s.0.known up.2 s.1 run))
 
   sections-read : (r due : ℕ) (ss : List (List Piece)) → r + length ss ≡ h.ranks → Sections h ss → Sound Start bytes (at_stage h r due) (sections_then r ss) → Sound Start bytes (Ended h) []
   sections-read r due [] all each run = one 6 [] [] (omega arith, omega arith) refl (end_sound h r due (omega arith)) run
@@ -89,6 +89,6 @@ pub form_reads : (bytes : List ℕ) (c : Content) → HasForm bytes c → Sound 
 form_reads bytes c f =
     let b = f.body in
     let run = subst (Sound Start bytes Start) f.spelled none in
-    let sound = head-sound b f.size (subst Limits (sym f.head-is) f.limits) in
+    let sound = head-sound b f.size (subst Limits (sym f.head_is) f.limits) in
     let begun = one 1 b (sections_then 0 f.sections) (omega arith, omega arith) f.size sound run in
-    sections-read bytes c.head f.limits.kind_in 0 0 f.sections (omega (arith, f.all)) f.each (subst (λ (x : Head). Sound Start bytes (at_stage x 0 0) (sections_then 0 f.sections)) f.head-is begun)
+    sections-read bytes c.head f.limits.kind_in 0 0 f.sections (omega (arith, f.all)) f.each (subst (λ (x : Head). Sound Start bytes (at_stage x 0 0) (sections_then 0 f.sections)) f.head_is begun)

@@ -1,7 +1,7 @@
 -- A dump's pixels stand in order of rank and number. Assumes nothing.
 use Rattle.std.proofs.Common.{◌≡◌, ℕ, ◌+◌, ◌*◌, ◌<◌, ◌≤◌, List, [], ◌∷◌, ◌++◌, sym, refl, subst, inl, inr, ⊎_elim, arith}
 use Rattle.dump.specs.declared.stage.Head.{Head}
-use Rattle.dump.specs.Grammar.{Piece, place, pixel, Upward, Sections, HasForm, Content, Placed, numbered, all_numbered, NotBefore, Rising}
+use Rattle.dump.specs.Grammar.{Piece, place, pixel, Upward, Sections, HasForm, Content, Placed, numbered, all_numbered, Rising}
 
 -- what rises from a later place rises from an earlier one
 later_rank : (r i : ℕ) (ps : List Placed) → Rising (r + 1) 0 ps → Rising r i ps

@@ -1,5 +1,5 @@
 -- One more record of a run. Assumes nothing.
-use Rattle.std.proofs.Common.{◌≡◌, ℕ, ◌+◌, ◌≤◌, Bool, not, ◌&&◌, ltb, leb, List, [], ◌∷◌, ◌++◌, length, get_or, take, drop, Some, None, Option, sym, refl, ap, ◌∙◌, subst, ap₂, arith, length-append, drop-drop}
+use Rattle.std.proofs.Common.{◌≡◌, ℕ, ◌+◌, ◌≤◌, not, ◌&&◌, ltb, leb, List, [], ◌∷◌, ◌++◌, length, get_or, take, drop, Some, None, Option, sym, ap, ◌∙◌, subst, ap₂, arith, length-append, drop-drop}
 use Rattle.std.proofs.lemmas.List.{take_at}
 use Rattle.std.proofs.lemmas.Bool.Decides.{nat_tests}
 use Rattle.tile.specs.declared.fault.Ground.{Ground}
@@ -10,7 +10,7 @@ use Rattle.dump.specs.declared.reader.Record.TheVariants.{Head, Rank, Place, Nea
 use Rattle.dump.specs.declared.reader.Item.{Item}
 use Rattle.dump.specs.declared.stage.Stage.{Stage}
 use Rattle.dump.specs.declared.stage.Stage.TheVariants.{Start}
-use Rattle.dump.specs.Order.{record_ground, next, or_else, refusal, Sound, none, more}
+use Rattle.dump.specs.Order.{record_ground, next, or_else, refusal, Sound, more}
 use Rattle.dump.specs.Records.{Known, body_size, kind_of, body_of, bytes_of, kind_at, body_at, behind, no_record, Leads, Stands}
 
 known : (r : Record) → Known (kind_of r)

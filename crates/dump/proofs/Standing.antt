@@ -1,8 +1,8 @@
 -- A record at the front of a list of bytes. Assumes nothing.
-use Rattle.std.proofs.Common.{◌≡◌, ℕ, suc, ◌+◌, ◌-◌, ◌<◌, ◌≤◌, List, [], ◌∷◌, ◌++◌, length, get_or, take, drop, Some, sym, refl, ap, ◌∙◌, one-add, arith, length-append, length-drop, take-append-drop, length-take-le, take_all}
+use Rattle.std.proofs.Common.{◌≡◌, ℕ, ◌+◌, ◌-◌, ◌<◌, ◌≤◌, List, [], ◌∷◌, length, get_or, take, drop, Some, sym, refl, ap, ◌∙◌, one-add, arith, length-append, length-drop, take-append-drop, length-take-le, take_all}
 use Rattle.tile.specs.declared.fault.Ground.TheVariants.{CutShort}
 use Rattle.dump.specs.declared.reader.Record.{Record}
-use Rattle.dump.specs.Records.{Known, body_size, kind_of, body_of, bytes_of, Leads, no_record}
+use Rattle.dump.specs.Records.{body_size, kind_of, body_of, bytes_of, Leads, no_record}
 
 pub nil_of : (xs : List ℕ) → length xs ≡ 0 → [] ≡ xs
 nil_of [] e = refl

@@ -71,7 +71,7 @@ pub record HasForm (bytes : List ℕ) (c : Content) : Type 0 where
   pub sections : List (List Piece)
   pub spelled : bytes ≡ 1 ∷ (body ++ sections_then 0 sections)
   pub size : length body ≡ 4
-  pub head-is : head_of body ≡ c.head
+  pub head_is : head_of body ≡ c.head
   pub limits : Limits c.head
   pub all : length sections ≡ c.head.ranks
   pub each : Sections c.head sections

@@ -1,5 +1,5 @@
 -- The grounds on which a record is refused, by how far the dump has been read, and the first faulty record. Assumes nothing.
-use Rattle.std.specs.Prelude.{◌≡◌, ℕ, ◌+◌, ◌-◌, Bool, true, false, cond, not, ◌&&◌, ◌||◌, List, [], ◌∷◌, length, Some, None, Option, ◌==◌, nat_le, nat_lt, slice_index}
+use Rattle.std.specs.Prelude.{◌≡◌, ℕ, ◌+◌, ◌-◌, Bool, false, cond, not, ◌&&◌, ◌||◌, List, [], ◌∷◌, length, Some, None, Option, ◌==◌, nat_le, nat_lt, slice_index}
 use Rattle.tile.specs.declared.fault.Fault.{Fault}
 use Rattle.tile.specs.declared.fault.Fault.TheVariants.{Dump}
 use Rattle.tile.specs.declared.fault.Ground.{Ground}
@@ -8,7 +8,6 @@ use Rattle.tile.specs.Answers.{first}
 use Rattle.tile.specs.Faults.{number_of, no_rank}
 use Rattle.tile.specs.Named.{named_width, named_lawful}
 use Rattle.dump.specs.declared.stage.Head.{Head}
-use Rattle.dump.specs.declared.stage.Progress.{Progress}
 use Rattle.dump.specs.declared.stage.Stage.{Stage}
 use Rattle.dump.specs.declared.stage.Stage.TheVariants.{Start, Within, Ended}
 use Rattle.dump.specs.Bytes.{half, words_in}

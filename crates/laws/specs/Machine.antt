@@ -31,8 +31,8 @@ pub record Brought : Type 0 where
 
 -- the two agree on the ranks and pixels of the last opening
 pub record Alike {X : Type 0} (S S' : Machine X) : Type 0 where
-  pub same-ranks : S.ranks ≡ S'.ranks
-  pub same-pixels : S.pixels ≡ S'.pixels
+  pub same_ranks : S.ranks ≡ S'.ranks
+  pub same_pixels : S.pixels ≡ S'.pixels
   pub entries : (r : ℕ) → r < S.ranks → S.entry r ≡ S'.entry r
   pub held_rows : (r x : ℕ) → r < S.ranks → x < S.pixels → S.held r x ≡ S'.held r x
   pub gathered_rows : (r x : ℕ) → r < S.ranks → x < S.pixels → S.gathered r x ≡ S'.gathered r x

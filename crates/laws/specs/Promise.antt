@@ -30,7 +30,7 @@ module _ {X R : Type 0} (K : Kind X R) (b : Brought) where
     -- Brought that, a closed rank's step is refused as finished exactly when the rank has had all its steps.
     pub ends : (r area : ℕ) → r < b.plan.ranks → b.longest ≤ area → IsClosed K b.plan es r → (answer K b S (Step r area) ≡ Refused (CallFault Finished r)) ↔ HadAllSteps K b.plan es r
     -- A finished rank's count of sent pixels is the sum, over the rounds, of the pixels of its old span outside its new one.
-    pub sent-pixels : (r : ℕ) → r < b.plan.ranks → IsFinished K b.plan es r → (S.entry r).sent ≡ sent b.plan r
+    pub sent_pixels : (r : ℕ) → r < b.plan.ranks → IsFinished K b.plan es r → (S.entry r).sent ≡ sent b.plan r
 
   -- the promise is kept after every list of calls from the machine S₀ on
   abbrev pub Promised : Machine X → Type 0

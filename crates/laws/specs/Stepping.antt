@@ -1,12 +1,11 @@
 -- One rank's next slot. Assumes nothing.
-use Rattle.std.specs.Prelude.{ℕ, ◌-◌, ◌*◌, Bool, cond, not, ◌&&◌, ◌||◌, List, [], ◌∷◌, Some, None, Option, nat_le, nat_lt, slice_index_or}
+use Rattle.std.specs.Prelude.{ℕ, ◌-◌, ◌*◌, Bool, cond, not, ◌||◌, List, [], ◌∷◌, Some, None, Option, nat_le, nat_lt, slice_index_or}
 use Rattle.std.specs.List.{flat_map}
 use Rattle.tile.specs.declared.fault.Fault.TheVariants.{Link, Call}
 use Rattle.tile.specs.declared.fault.Ground.{Ground}
 use Rattle.tile.specs.declared.fault.Ground.TheVariants.{Outside, TooShort, Unsuited, NotClosed, Finished, BoxTaken, BoxEmpty, BadMessage, Spoilt as SpoiltMessage}
 use Rattle.tile.specs.Kinds.{Kind}
 use Rattle.tile.specs.Rows.{row_of_words}
-use Rattle.plan.specs.Model.{PlanModel}
 use Rattle.plan.specs.Runs.{has}
 use Rattle.link.specs.Model.{BoxState, Empty, Holds, Spoilt, changed, message}
 use Rattle.laws.specs.declared.moves.Move.{Move}

@@ -1,5 +1,5 @@
 -- What the contracts of the calls give, at any link. Assumes nothing.
-use Rattle.std.proofs.Common.{◌≡◌, ℕ, ◌<◌, ◌≤◌, Bool, true, false, cond, not, ◌&&◌, eqb, ltb, leb, List, [], length, Some, None, Ok, Err, Option, Result, sym, refl, ap, ◌∙◌, arith}
+use Rattle.std.proofs.Common.{◌≡◌, ℕ, ◌<◌, ◌≤◌, Bool, true, false, not, ltb, List, length, Some, None, Ok, Err, Option, refl, ap, ◌∙◌, arith}
 use mathlib.Core.Path.{fun_ext}
 use Rattle.std.proofs.lemmas.Bool.{le-ltb, lt-ltb, not-false}
 use Rattle.std.proofs.lemmas.Bool.Decides.{nat_tests}
@@ -7,8 +7,8 @@ use Rattle.tile.specs.declared.fault.Fault.{Fault}
 use Rattle.tile.specs.declared.fault.Fault.TheVariants.{Link}
 use Rattle.tile.specs.declared.fault.Ground.{Ground}
 use Rattle.tile.specs.declared.fault.Ground.TheVariants.{Outside, TooShort, WrongLength, BoxTaken, BoxEmpty, Spoilt as SpoiltMessage}
-use Rattle.link.specs.Model.{LinkModel, BoxState, Empty, Holds, Spoilt, is_empty, is_spoilt, message, is_pair, changed, put, Allowed, LinkLaws}
-use Rattle.link.specs.Calls.{first, answered, kept, is_length, filled_with, send_ground, read_ground, clear_ground, waiting_ground, Send, Read, Clear, Waiting}
+use Rattle.link.specs.Model.{LinkModel, BoxState, Empty, Holds, Spoilt, is_empty, message, is_pair, changed, put, Allowed, LinkLaws}
+use Rattle.link.specs.Calls.{first, answered, is_length, filled_with, send_ground, clear_ground, Send, Read, Clear, Waiting}
 
 -- links with the same size and the same boxes are the same
 pub same_link : (m n : LinkModel) → m.ranks ≡ n.ranks → m.longest ≡ n.longest → ((i j : ℕ) → m.boxes i j ≡ n.boxes i j) → m ≡ n
@@ -60,15 +60,15 @@ module _ (m : LinkModel) (from to : ℕ) (pair : is_pair m.ranks from to ≡ tru
   send_unfit words h = record { answer = rw (pair, h); after = rw (pair, h) }
 
   module _ (count : ℕ) (fits : is_length m.longest count ≡ true) where
-    pub taken-ground : is_empty (m.boxes from to) ≡ false → send_ground m from to count ≡ Some BoxTaken
-    taken-ground h = rw (pair, fits, h)
+    pub taken_ground : is_empty (m.boxes from to) ≡ false → send_ground m from to count ≡ Some BoxTaken
+    taken_ground h = rw (pair, fits, h)
 
     pub no_send_ground : is_empty (m.boxes from to) ≡ true → send_ground m from to count ≡ None
     no_send_ground h = rw (pair, fits, h)
 
   module _ (words : List ℕ) (fits : is_length m.longest (length words) ≡ true) where
     pub send_taken : is_empty (m.boxes from to) ≡ false → Send m m from to words (Err (Link BoxTaken to))
-    send_taken h = let g = taken-ground (length words) fits h in record { answer = rw g; after = rw g }
+    send_taken h = let g = taken_ground (length words) fits h in record { answer = rw g; after = rw g }
 
     pub send_done : (n : LinkModel) → is_empty (m.boxes from to) ≡ true → n ≡ put m from to (Holds words) → Send m n from to words (Ok tt)
     send_done n h e = let g = no_send_ground (length words) fits h in record { answer = rw g; after = rw g e }

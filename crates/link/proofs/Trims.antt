@@ -1,13 +1,11 @@
 -- What the trimmed form keeps of a message, and what the layer keeps of the link below. Assumes nothing.
-use Rattle.std.proofs.Common.{◌≡◌, ℕ, zero, suc, ◌+◌, ◌-◌, ◌<◌, ◌≤◌, Bool, true, false, cond, not, ◌&&◌, eqb, ltb, leb, ◌⊎◌, List, [], ◌∷◌, ◌++◌, length, get_or, take, drop, set, replicate, Some, None, sym, refl, ap, ◌∙◌, inl, inr, ⊎_elim, arith, length-set, rules}
-use mathlib.Core.Path.{fun_ext}
+use Rattle.std.proofs.Common.{◌≡◌, ℕ, zero, suc, ◌+◌, ◌-◌, ◌<◌, ◌≤◌, Bool, true, false, cond, not, ltb, ◌⊎◌, List, [], ◌∷◌, ◌++◌, length, get_or, take, drop, set, replicate, Some, sym, refl, ap, ◌∙◌, inr, ⊎_elim, arith, length-set, rules}
 use borrow.Rule.Slice.PartMut.{put_mid, post_of}
-use Rattle.std.proofs.lemmas.Slice.{take-put_mid, overwrites}
-use Rattle.std.proofs.lemmas.List.{length-append, length-replicate, length-take-le, length-drop, get_or-replicate, get_or-take, get_or-drop, get_or_append_left, get_or-append_right, get_or_past, ext_get_or, take_at, drop_at, drop-drop, append_assoc, take_rest, places}
+use Rattle.std.proofs.lemmas.Slice.{take-put_mid}
+use Rattle.std.proofs.lemmas.List.{length-append, length-replicate, length-take-le, length-drop, get_or-take, get_or-drop, get_or_past, ext_get_or, take_at, drop_at, drop-drop, append_assoc, take_rest, places}
 use Rattle.std.proofs.lemmas.Bool.{cases_lt}
 use Rattle.std.proofs.lemmas.Bool.Decides.{nat_tests}
-use Rattle.link.specs.Model.{LinkModel, BoxState, Empty, Holds, Spoilt, is_empty, is_spoilt, message, Allowed, LinkLaws, is_pair, changed, put}
-use Rattle.link.specs.Calls.{is_length, filled_with}
+use Rattle.link.specs.Model.{LinkModel, BoxState, Empty, Holds, Spoilt, is_empty, is_spoilt, Allowed, LinkLaws, changed, put}
 use Rattle.link.specs.Trim.{leading, ending, middle, trimmed, has_form, spread, untrimmed, trim_box, trim_model, ReadInto}
 use Rattle.link.proofs.Links.{same_link}
 use Rattle.link.proofs.WordLaws.{append_words, zero_words}

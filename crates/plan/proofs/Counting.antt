@@ -1,5 +1,5 @@
 -- Sums and counts: the pixels that a rank sends in a round.
-use Rattle.std.proofs.Common.{◌≡◌, ℕ, zero, suc, ◌+◌, ◌-◌, ◌*◌, ◌<◌, ◌≤◌, min, cond, not, ◌&&◌, eqb, ◌⊎◌, sym, refl, ap, ◌∙◌, subst, ap₂, ⊎_elim, arith}
+use Rattle.std.proofs.Common.{◌≡◌, ℕ, zero, suc, ◌+◌, ◌-◌, ◌*◌, ◌<◌, ◌≤◌, min, cond, not, ◌&&◌, eqb, sym, refl, ap, ◌∙◌, subst, ap₂, ⊎_elim, arith}
 use Rattle.std.proofs.lemmas.Bool.{cases_eq, cond-true, cond-false, eq-eqb, ne_eqb}
 use Rattle.plan.specs.declared.runs.Run.{Run}
 use Rattle.plan.specs.Amounts.{sum_below, count_below, leaving, sent_to, PiecesAreLeft}
@@ -55,9 +55,9 @@ module _ (p : PlanModel) where
   sends-counted : (r t i : ℕ) → t < p.rounds → r < p.ranks → i < (p.group (suc t) r).len → sends r t i ≡ sum_below (sends_at r t i) p.pixels
   sends-counted r t i ht hr hi =
       let m : ℕ = (p.group (suc t) r).start + i in
-      let w = p.group-within (suc t) r (omega arith) hr in
-      let a = p.span-within t r (omega arith) hr in
-      let b = p.span-within (suc t) m (omega arith) (omega arith) in
+      let w = p.group_within (suc t) r (omega arith) hr in
+      let a = p.span_within t r (omega arith) hr in
+      let b = p.span_within (suc t) m (omega arith) (omega arith) in
       ⊎_elim
       (λ e. cond-true (eqb m r) _ _ (eq-eqb m r e) ∙ sym (sum_zero (sends_at r t i) p.pixels (λ k u. cond-true (eqb m r) _ _ (eq-eqb m r e))))
       (λ e.
@@ -69,7 +69,7 @@ module _ (p : PlanModel) where
   leaves_at : (r t x : ℕ) → t < p.rounds → r < p.ranks → x < p.pixels → sum_below (λ i. sends_at r t i x) (p.group (suc t) r).len ≡ cond (has (p.span t r) x && not (has (p.span (suc t) r) x)) 1 0
   leaves_at r t x ht hr hx =
       let g : Run = p.group (suc t) r in
-      let o = p.one-holder (suc t) r x (omega arith) hr hx in
+      let o = p.one_holder (suc t) r x (omega arith) hr hx in
       let h : ℕ = o.0 in
       let j : ℕ = h - g.start in
       let ej : g.start + j ≡ h = (let u = o.1 in omega arith) in
@@ -112,14 +112,14 @@ module _ (p : PlanModel) where
   outside_new : (t f : ℕ) → t < p.rounds → f < p.ranks → (m x : ℕ) → In (p.group (suc t) f) m → (m ≡ f → ⊥) → In (piece p t f m) x → In (p.span t f) x × (In (p.span (suc t) f) x → ⊥)
   outside_new t f ht hf m x i ne k =
       let both = in_common (p.span t f) (p.span (suc t) m) x k in
-      let within = p.span-within t f (omega arith) hf in
-      let o = p.one-holder (suc t) f x (omega arith) hf (omega arith) in
+      let within = p.span_within t f (omega arith) hf in
+      let o = p.one_holder (suc t) f x (omega arith) hf (omega arith) in
       (both.0, λ own. ne (o.3 m i both.1 ∙ sym (o.3 f (p.member (suc t) f (omega arith) hf) own)))
 
   covered : (t f : ℕ) → t < p.rounds → f < p.ranks → (x : ℕ) → In (p.span t f) x → (In (p.span (suc t) f) x → ⊥) → (m : ℕ) × In (p.group (suc t) f) m × (m ≡ f → ⊥) × In (piece p t f m) x
   covered t f ht hf x old gone =
-      let within = p.span-within t f (omega arith) hf in
-      let o = p.one-holder (suc t) f x (omega arith) hf (omega arith) in
+      let within = p.span_within t f (omega arith) hf in
+      let o = p.one_holder (suc t) f x (omega arith) hf (omega arith) in
       (o.0, o.1, λ e. gone (subst (λ m. In (p.span (suc t) m) x) e o.2), common_in (p.span t f) (p.span (suc t) o.0) x old o.2)
 
 pub pieces_are_left : PiecesAreLeft
@@ -146,12 +146,12 @@ without a b n h =
     omega arith
 
 pub leaving-is : (p : PlanModel) (r t : ℕ) → t < p.rounds → r < p.ranks → leaving p r t ≡ (p.span t r).len - (piece p t r r).len
-leaving-is p r t ht hr = without (p.span t r) (p.span (suc t) r) p.pixels (p.span-within t r (omega arith) hr)
+leaving-is p r t ht hr = without (p.span t r) (p.span (suc t) r) p.pixels (p.span_within t r (omega arith) hr)
 
 pub leaving-few : (p : PlanModel) (r t : ℕ) → t < p.rounds → r < p.ranks → leaving p r t ≤ 1024
 leaving-few p r t ht hr =
     let e = leaving-is p r t ht hr in
-    let w = p.span-within t r (omega arith) hr in
+    let w = p.span_within t r (omega arith) hr in
     let l = p.pixel_limit in
     omega arith
 

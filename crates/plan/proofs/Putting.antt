@@ -54,7 +54,7 @@ module _ (m : PlanModel) (t : ℕ) where
     pub from-short : (f : ℕ) → f < m.ranks → length (from m t f) ≤ 32
     from-short f h =
         let a = up_to-short (to_place m t f) 1 (m.group (suc t) f).len (λ j l. between-short f ((m.group (suc t) f).start + j)) in
-        let b = m.group-within (suc t) f (omega arith) h in
+        let b = m.group_within (suc t) f (omega arith) h in
         let l = m.rank_limit in
         omega arith
 

@@ -1,5 +1,5 @@
 -- What an answer about a rank says.
-use Rattle.std.proofs.Common.{◌≡◌, ℕ, suc, ◌<◌, ◌≤◌, ltb, ◌⊎◌, Ok, Err, Result, ap, ◌∙◌, ap₂, ⊎_elim, arith}
+use Rattle.std.proofs.Common.{◌≡◌, ℕ, suc, ◌<◌, ◌≤◌, ltb, Ok, Err, Result, ap, ◌∙◌, ap₂, ⊎_elim, arith}
 use Rattle.std.proofs.lemmas.Bool.{cases_lt, cond-true, cond-false, lt-ltb, le-ltb}
 use Rattle.tile.specs.declared.fault.Fault.{Fault}
 use Rattle.plan.specs.Answers.{asked, told, outside, round_of, span_told, piece_told}

@@ -223,13 +223,13 @@ radix_model R P ks limits suits =
       rank_limit = limits.0;
       pixel_limit = limits.1;
       round_limit = omega arith;
-      group-within = group-fits (factor ks) pos R P (length ks) all;
-      span-within = λ t r le h. fits (factor ks) pos P t r;
+      group_within = group-fits (factor ks) pos R P (length ks) all;
+      span_within = λ t r le h. fits (factor ks) pos P t r;
       alone = λ r h. first_group (factor ks) pos R P (length ks) all r;
       whole = λ r h. first-span (factor ks) pos R P (length ks) all r;
       member = λ t r le h. in_group (factor ks) pos t r;
       shared = λ t r m le h i. shared-group (factor ks) pos R P (length ks) all t r m i;
-      one-holder = λ t r x le h k. one-member (factor ks) pos R P (length ks) all t r x k;
+      one_holder = λ t r x le h k. one-member (factor ks) pos R P (length ks) all t r x k;
       nested = λ t r m lt h i. merged (factor ks) pos R P (length ks) all t r m i;
-      all-together = λ r h. ap₂ run_of (one-group (factor ks) pos R P (length ks) all r h) all;
+      all_together = λ r h. ap₂ run_of (one-group (factor ks) pos R P (length ks) all r h) all;
     }

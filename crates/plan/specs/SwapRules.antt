@@ -1,5 +1,5 @@
 -- The 2-3 plan keeps the five rules. Assumes nothing.
-use Rattle.std.specs.Prelude.{◌≡◌, ℕ, zero, suc, ◌+◌, ◌-◌, ◌*◌, ◌/◌, ◌^◌, ◌<◌, ◌≤◌, cond, ◌⊎◌, ◌==◌}
+use Rattle.std.specs.Prelude.{◌≡◌, ℕ, zero, suc, ◌+◌, ◌-◌, ◌*◌, ◌/◌, ◌^◌, ◌<◌, ◌≤◌, cond, ◌==◌}
 use Rattle.std.proofs.Common.{sym, ap, ap₂, subst, ◌∙◌, ⊎_elim, arith, le-div_iff_mul-le, div-mul-le_self, mul-le-mul_right, div-one, mul-one, add-mul, mul_assoc, mul_comm, pow-suc, zero-mul, pow_pos, pow_mono, eq-eqb, ne_eqb, le-leb}
 use Rattle.std.proofs.Math.Nat.{lt-div-mul-add, div-eq_of_lt-le, div-div-eq-div-mul, min-le_left}
 use Rattle.std.proofs.lemmas.Bool.{lt-leb}
@@ -254,13 +254,13 @@ swap_model R P limits = record {
   rank_limit = limits.0;
   pixel_limit = limits.1;
   round_limit = let few = top-few 5 R in omega arith;
-  group-within = λ t r le h. end_le R (2 ^ t) (pow_pos t) (width_le R P limits.0 t le) r;
-  span-within = spans R P limits.0;
+  group_within = λ t r le h. end_le R (2 ^ t) (pow_pos t) (width_le R P limits.0 t le) r;
+  span_within = spans R P limits.0;
   alone = λ r h. let z = round_zero R P limits.0 r h in ap₂ run_of z.0 z.1;
   whole = λ r h. let z = round_zero R P limits.0 r h in ap₂ run_of z.2 z.3;
   member = inside R P limits.0;
   shared = λ t r m le h i. let e = same R P limits.0 t r le h m i in ap₂ run_of e.0 e.1;
-  one-holder = λ t r x le h k. let f = holds R P limits.0 t r le h x k in (holder R P limits.0 t r x, f.0, f.1, λ m i s. holds-once R P limits.0 t r x m le h i s);
+  one_holder = λ t r x le h k. let f = holds R P limits.0 t r le h x k in (holder R P limits.0 t r x, f.0, f.1, λ m i s. holds-once R P limits.0 t r x m le h i s);
   nested = merged R P limits.0;
-  all-together = λ r h. let e = last_round R P limits.0 r h in ap₂ run_of e.0 e.1;
+  all_together = λ r h. let e = last_round R P limits.0 r h in ap₂ run_of e.0 e.1;
 }

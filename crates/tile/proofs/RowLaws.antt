@@ -1,7 +1,7 @@
 -- Rows joined pixel by pixel, as a loop does it. Assumes nothing.
-use Rattle.std.proofs.Common.{◌≡◌, ℕ, zero, suc, ◌+◌, ◌-◌, ◌*◌, ◌/◌, ◌%◌, ◌<◌, ◌≤◌, Bool, true, false, List, [], ◌∷◌, ◌++◌, length, get_or, take, drop, set, is_some, Some, None, Ok, Option, sym, refl, ap, ◌∙◌, subst, ap₂, append_assoc, mul-le-mul_right, suc-mul, add-mul, add_comm, div-add-mod', zero-mul, mul-div_cancel, arith, take-append-drop, take-add}
+use Rattle.std.proofs.Common.{◌≡◌, ℕ, zero, suc, ◌+◌, ◌-◌, ◌*◌, ◌/◌, ◌%◌, ◌<◌, ◌≤◌, Bool, true, false, List, [], ◌∷◌, ◌++◌, length, get_or, take, drop, set, is_some, Some, None, Ok, Option, sym, refl, ap, ◌∙◌, subst, ap₂, append_assoc, mul-le-mul_right, suc-mul, add-mul, div-add-mod', zero-mul, mul-div_cancel, arith, take-append-drop, take-add}
 use borrow.Rule.Slice.PartMut.{put_mid}
-use Rattle.std.proofs.lemmas.List.{flat_map_more, map_more, take_rest, take_at, drop_at, drop-drop, length-drop, length-take, length-append, take_more, drop_more, get_or_at, set_at, take_all, drop_all, append-nil, length-take-le, length-map, get_or-map}
+use Rattle.std.proofs.lemmas.List.{flat_map_more, map_more, take_rest, take_at, drop_at, drop-drop, length-drop, length-append, take_more, drop_more, get_or_at, set_at, take_all, drop_all, append-nil, length-take-le, get_or-map}
 use native.Mathlib.Nat.{mul-mod_left}
 use Rattle.std.proofs.lemmas.Nat.{mod_below}
 use Rattle.std.specs.List.{flat_map}
@@ -65,7 +65,7 @@ module _ {P R : Type 0} (m : Kind P R) (laws : KindLaws m) where
   length-words [] = omega arith
   length-words (r ∷ rs) =
       length-append (m.words (m.meaning r)) (row_words m rs)
-      ∙ omega (arith, laws.words-length (m.meaning r), length-words rs, suc-mul (length rs) m.width)
+      ∙ omega (arith, laws.words_length (m.meaning r), length-words rs, suc-mul (length rs) m.width)
 
   pub words_more : (rs : List R) (i : ℕ) (r : R) (p : P) → i < length rs → r ≡ get_or rs i r → p ≡ m.meaning r → row_words m (take (i + 1) rs) ≡ row_words m (take i rs) ++ m.words p
   words_more rs i r p h is e =
@@ -93,7 +93,7 @@ module _ {P R : Type 0} (m : Kind P R) (laws : KindLaws m) where
   length_joined [] = omega arith
   length_joined (p ∷ ps) =
       length-append (m.words p) (flat_map m.words ps)
-      ∙ omega (arith, laws.words-length p, length_joined ps, suc-mul (length ps) m.width)
+      ∙ omega (arith, laws.words_length p, length_joined ps, suc-mul (length ps) m.width)
 
   -- the part of pixel i is the words of a pixel
   pub part_of : (ps : List P) (i : ℕ) → i < length ps → (p : P) × (m.words p ≡ take m.width (drop (i * m.width) (flat_map m.words ps)))
@@ -101,7 +101,7 @@ module _ {P R : Type 0} (m : Kind P R) (laws : KindLaws m) where
   part_of (p ∷ ps) zero h = (
     p,
     sym (ap (λ n. take m.width (drop n (flat_map m.words (p ∷ ps)))) (zero-mul m.width)
-        ∙ take_at (m.words p) (flat_map m.words ps) m.width (laws.words-length p)),
+        ∙ take_at (m.words p) (flat_map m.words ps) m.width (laws.words_length p)),
   )
   part_of (p ∷ ps) (suc i) h =
       let w = m.width in
@@ -111,7 +111,7 @@ module _ {P R : Type 0} (m : Kind P R) (laws : KindLaws m) where
         next.1
             ∙ sym (ap (λ n. take w (drop n (flat_map m.words (p ∷ ps)))) at
             ∙ ap (take w) (sym (drop-drop (i * w) w (flat_map m.words (p ∷ ps))))
-            ∙ ap (λ l. take w (drop (i * w) l)) (drop_at (m.words p) (flat_map m.words ps) w (laws.words-length p))),
+            ∙ ap (λ l. take w (drop (i * w) l)) (drop_at (m.words p) (flat_map m.words ps) w (laws.words_length p))),
       )
 
   -- words that do not divide into pixels
@@ -136,14 +136,14 @@ module _ {P R : Type 0} (m : Kind P R) (laws : KindLaws m) where
   part-is [] i d h = absurd (omega arith)
   part-is (p ∷ ps) zero d h =
       sym (ap (λ n. take m.width (drop n (flat_map m.words (p ∷ ps)))) (zero-mul m.width)
-      ∙ take_at (m.words p) (flat_map m.words ps) m.width (laws.words-length p))
+      ∙ take_at (m.words p) (flat_map m.words ps) m.width (laws.words_length p))
   part-is (p ∷ ps) (suc i) d h =
       let w = m.width in
       let at : suc i * w ≡ w + i * w = omega (arith, suc-mul i w) in
       part-is ps i d (omega arith)
       ∙ sym (ap (λ n. take w (drop n (flat_map m.words (p ∷ ps)))) at
       ∙ ap (take w) (sym (drop-drop (i * w) w (flat_map m.words (p ∷ ps))))
-      ∙ ap (λ l. take w (drop (i * w) l)) (drop_at (m.words p) (flat_map m.words ps) w (laws.words-length p)))
+      ∙ ap (λ l. take w (drop (i * w) l)) (drop_at (m.words p) (flat_map m.words ps) w (laws.words_length p)))
 
   -- the pixel read at place i is pixel i
   pub read-part : (ws : List ℕ) (ps : List P) (i : ℕ) (d : P) → i < length ps → flat_map m.words ps ≡ ws → m.reads (take m.width (drop (i * m.width) ws)) ≡ Some (get_or ps i d)
@@ -153,7 +153,7 @@ module _ {P R : Type 0} (m : Kind P R) (laws : KindLaws m) where
   pub row_made : (ps : List P) → row_of_words m (length ps) (flat_map m.words ps) ≡ Some ps
   row_made [] = refl
   row_made (p ∷ ps) =
-      ap₂ (λ a b. put_front (m.reads a) (row_of_words m (length ps) b)) (take_at (m.words p) (flat_map m.words ps) m.width (laws.words-length p)) (drop_at (m.words p) (flat_map m.words ps) m.width (laws.words-length p))
+      ap₂ (λ a b. put_front (m.reads a) (row_of_words m (length ps) b)) (take_at (m.words p) (flat_map m.words ps) m.width (laws.words_length p)) (drop_at (m.words p) (flat_map m.words ps) m.width (laws.words_length p))
       ∙ ap₂ put_front (laws.read_back p) (row_made ps)
 
   split-front : (o : Option P) (os : Option (List P)) (ps : List P) → put_front o os ≡ Some ps → (q : P) × (qs : List P) × (o ≡ Some q) × (os ≡ Some qs) × (ps ≡ q ∷ qs)

@@ -1,6 +1,6 @@
 -- Coverage pixels are a kind. Assumes nothing.
-use Rattle.std.specs.Prelude.{◌≡◌, ℕ, zero, suc, ◌-◌, ◌%◌, ◌^◌, ◌<◌, ◌≤◌, min, max, true, List, [], ◌∷◌, ◌++◌, length, drop, bit_and, slice_index, slice_set, refl}
-use Rattle.std.proofs.Common.{sym, ap, ap₂, subst, ◌∙◌, mod-eq_of_lt, arith}
+use Rattle.std.specs.Prelude.{◌≡◌, ℕ, zero, suc, ◌-◌, ◌^◌, ◌<◌, ◌≤◌, min, max, true, List, [], ◌∷◌, ◌++◌, length, drop, bit_and, slice_index, slice_set, refl}
+use Rattle.std.proofs.Common.{sym, ap, subst, ◌∙◌, mod-eq_of_lt, arith}
 use Rattle.std.proofs.lemmas.Bool.Decides.{nat_tests}
 use mathlib.Core.HLevel.{is_prop→PathP, Π_prop, ×₃_prop}
 use Rattle.std.proofs.Math.Bridge.{le_prop}
@@ -8,8 +8,8 @@ use Rattle.std.proofs.Math.Nat.{ℕ_set, zero-max}
 use Rattle.std.specs.Int.Bits.{bit_or, or_zero_r}
 use Rattle.std.proofs.lemmas.Nat.{and_mask, or_lt}
 use Rattle.tile.specs.Bitwise.{bit, bit-bit_or, same_bits}
-use Rattle.tile.specs.Cover.{coverage, join, blank, meaning, words, of_words, four, over, over-bit, over_word, inside-word, four_inside}
-use Rattle.tile.specs.Kinds.{Kind, KindLaws}
+use Rattle.tile.specs.Cover.{coverage, join, blank, meaning, words, of_words, four, over, over-bit, over_word, inside-word}
+use Rattle.tile.specs.Kinds.{KindLaws}
 use Rattle.tile.specs.ReadLaws.{reading-back, reading-only}
 use Rattle.tile.specs.Named.{SameKind, Inside, cover_lawful}
 use Rattle.tile.specs.Words.{low, AreWords}
@@ -46,8 +46,8 @@ module _ (p : Coverage) where
   pub low_mask : low p.mask ≡ p.mask
   low_mask = mod-eq_of_lt p.lawful.0
 
-  pub meaning-plain : meaning (coverage.plain p) ≡ p
-  meaning-plain =
+  pub meaning_plain : meaning (coverage.plain p) ≡ p
+  meaning_plain =
       same-coverage _ _ low_mask
       (planes-are (λ k. bit_and (slice_index p.planes k) (low p.mask))
       (λ k. ap (bit_and (slice_index p.planes k)) low_mask ∙ p.lawful.2 k))
@@ -131,22 +131,22 @@ named : SameKind 2 5 (λ ws. (p : Coverage) × (coverage.words p ≡ ws))
 named = record {
   same_width = refl;
   allowed = λ ws l. subst (λ (vs : List ℕ). cover_lawful vs ≡ true) l.1 (from_cover l.0);
-  all-allowed = to_cover;
+  all_allowed = to_cover;
 }
 
 pub laws : KindLaws coverage
 laws = record {
-  meaning-plain = meaning-plain;
+  meaning_plain = meaning_plain;
   left = left;
   right = right;
   assoc = assoc;
   some_words = omega arith;
-  words-length = λ p. ap suc p.lawful.1;
+  words_length = λ p. ap suc p.lawful.1;
   are_words = are_words;
-  read_back = reading-back words of_words meaning-plain;
+  read_back = reading-back words of_words meaning_plain;
   read_only = reading-only words of_words;
-  blank-zeros = refl;
-  blank-alone = λ p e. same-coverage p blank (ap (λ ws. slice_index ws 0) e) (ap (drop 1) e);
+  blank_zeros = refl;
+  blank_alone = λ p e. same-coverage p blank (ap (λ ws. slice_index ws 0) e) (ap (drop 1) e);
   named = λ _. named;
 }
 

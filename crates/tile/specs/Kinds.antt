@@ -19,21 +19,21 @@ pub record Kind (P R : Type 0) : Type 0 where
   pub reads : List ℕ → Option P
 
 pub record KindLaws {P R : Type 0} (m : Kind P R) : Type 0 where
-  pub meaning-plain : (p : P) → m.meaning (m.plain p) ≡ p
+  pub meaning_plain : (p : P) → m.meaning (m.plain p) ≡ p
   -- blank joined on either side changes no pixel
   pub left : (p : P) → m.join m.blank p ≡ p
   pub right : (p : P) → m.join p m.blank ≡ p
   pub assoc : (p q s : P) → m.join (m.join p q) s ≡ m.join p (m.join q s)
   pub some_words : 1 ≤ m.width
-  pub words-length : (p : P) → length (m.words p) ≡ m.width
+  pub words_length : (p : P) → length (m.words p) ≡ m.width
   pub are_words : (p : P) → AreWords (m.words p)
   -- a pixel's words read back as that pixel
   pub read_back : (p : P) → m.reads (m.words p) ≡ Some p
   -- words of no pixel are not read
   pub read_only : (ws : List ℕ) (p : P) → m.reads ws ≡ Some p → m.words p ≡ ws
   -- blank, and blank alone, has only zero words
-  pub blank-zeros : m.words m.blank ≡ replicate m.width 0
-  pub blank-alone : (p : P) → m.words p ≡ replicate m.width 0 → p ≡ m.blank
+  pub blank_zeros : m.words m.blank ≡ replicate m.width 0
+  pub blank_alone : (p : P) → m.words p ≡ replicate m.width 0 → p ≡ m.blank
   -- with the number of a named kind, the words are those of that kind
   pub named : Named m.number m.width (λ ws. (p : P) × (m.words p ≡ ws))
 

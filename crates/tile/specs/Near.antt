@@ -1,5 +1,5 @@
 -- Nearest pixels. Assumes nothing.
-use Rattle.std.specs.Prelude.{◌≡◌, ℕ, zero, suc, ◌%◌, ◌^◌, ◌<◌, ◌≤◌, cond, List, [], ◌∷◌, nat_le, slice_index, refl}
+use Rattle.std.specs.Prelude.{◌≡◌, ℕ, zero, suc, ◌≤◌, cond, List, [], ◌∷◌, nat_le, slice_index, refl}
 use Rattle.std.proofs.Common.{arith}
 use Rattle.tile.specs.Kinds.{Kind, reading}
 use Rattle.tile.specs.Words.{low}

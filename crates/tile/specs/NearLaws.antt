@@ -1,12 +1,12 @@
 -- Nearest pixels are a kind. Assumes nothing.
-use Rattle.std.specs.Prelude.{◌≡◌, ℕ, zero, suc, ◌%◌, ◌^◌, ◌<◌, Bool, true, false, cond, List, [], ◌∷◌, length, ◌≢◌, nat_le, slice_index, refl}
+use Rattle.std.specs.Prelude.{◌≡◌, ℕ, zero, suc, ◌^◌, ◌<◌, true, List, [], ◌∷◌, length, ◌≢◌, nat_le, slice_index, refl}
 use Rattle.std.proofs.Common.{sym, ap, ap₂, subst, ◌∙◌, mod-eq_of_lt, arith}
 use mathlib.Core.HLevel.{is_prop→PathP, Π_prop, ×₃_prop}
 use Rattle.std.proofs.Math.Bridge.{le_prop}
 use Rattle.std.proofs.Math.Nat.{ℕ_set}
 use Rattle.std.proofs.lemmas.Bool.{cond_both, leb-true, leb-false}
 use Rattle.std.proofs.lemmas.Bool.Decides.{nat_tests}
-use Rattle.tile.specs.Kinds.{Kind, KindLaws}
+use Rattle.tile.specs.Kinds.{KindLaws}
 use Rattle.tile.specs.Named.{SameKind, near_lawful}
 use Rattle.tile.specs.Words.{low, AreWords}
 use Rattle.tile.specs.Near.{nearest, join, blank, meaning, colour_at, words, of_words}
@@ -30,8 +30,8 @@ lawful_colour (suc n) c h = refl
 pub low-is : (n : ℕ) → n < 2 ^ 32 → low n ≡ n
 low-is n h = mod-eq_of_lt h
 
-pub meaning-plain : (p : Nearest) → meaning (nearest.plain p) ≡ p
-meaning-plain p =
+pub meaning_plain : (p : Nearest) → meaning (nearest.plain p) ≡ p
+meaning_plain p =
     let n = low-is p.nearness p.lawful.0 in
     let c = low-is p.colour p.lawful.1 in
     same-nearest _ _ n (ap₂ colour_at n c ∙ lawful_colour p.nearness p.colour p.lawful.2)
@@ -68,22 +68,22 @@ named : SameKind 1 2 (λ ws. (p : Nearest) × (nearest.words p ≡ ws))
 named = record {
   same_width = refl;
   allowed = λ ws l. subst (λ (vs : List ℕ). near_lawful vs ≡ true) l.1 (near_told l.0.nearness l.0.colour l.0.lawful.2);
-  all-allowed = to_near;
+  all_allowed = to_near;
 }
 
 pub laws : KindLaws nearest
 laws = record {
-  meaning-plain = meaning-plain;
+  meaning_plain = meaning_plain;
   left = left;
   right = right;
   assoc = assoc;
   some_words = omega arith;
-  words-length = λ p. refl;
+  words_length = λ p. refl;
   are_words = are_words;
-  read_back = reading-back words of_words meaning-plain;
+  read_back = reading-back words of_words meaning_plain;
   read_only = reading-only words of_words;
-  blank-zeros = refl;
-  blank-alone = λ p e. same-nearest p blank (ap (λ ws. slice_index ws 0) e) (ap (λ ws. slice_index ws 1) e);
+  blank_zeros = refl;
+  blank_alone = λ p e. same-nearest p blank (ap (λ ws. slice_index ws 0) e) (ap (λ ws. slice_index ws 1) e);
   named = λ _. named;
 }
 

@@ -1,4 +1,4 @@
-use Rattle.std.proofs.Common.{◌≡◌, ℕ, ◌+◌, ◌<◌, List, get_or, drop, vec_items, sym, ap, ◌∙◌, subst, arith, below_more}
+use Rattle.std.proofs.Common.{ℕ, ◌+◌, ◌<◌, List, get_or, drop, vec_items, sym, ap, ◌∙◌, subst, arith, below_more}
 use Rattle.std.proofs.lemmas.Result.{err_from_is_err_and}
 use Rattle.console.specs.Hex.{digits_in}
 use Rattle.console.proofs.Texts.{prepend, space_more, digit-more, digit-small, all_read, small-more, space_readable, digit-readable, unreadable}

@@ -1,4 +1,4 @@
-use Rattle.std.proofs.Common.{◌≡◌, List, [], ◌∷◌, ◌++◌, length, string_bytes, sym, ap, ◌∙◌, append_assoc, arith}
+use Rattle.std.proofs.Common.{List, [], ◌∷◌, ◌++◌, string_bytes, sym, ap, ◌∙◌, append_assoc, arith}
 use lib.Utf8.{encode}
 use Rattle.std.proofs.lemmas.List.{append-nil, take_all}
 use Rattle.dump.specs.Bytes.{words_in}

@@ -1,4 +1,4 @@
-use Rattle.std.proofs.Common.{◌≡◌, ℕ, List, ◌++◌, string_bytes, sym, ap, ◌∙◌, append_assoc}
+use Rattle.std.proofs.Common.{ℕ, List, ◌++◌, string_bytes, sym, ap, ◌∙◌, append_assoc}
 use Rattle.dump.specs.Grammar.{Placed}
 use Rattle.dump.specs.Pixels.{item, left}
 use Rattle.console.specs.Reports.{pixel_lines, shown_pixel}

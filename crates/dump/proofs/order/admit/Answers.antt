@@ -1,4 +1,4 @@
-use Rattle.std.proofs.Common.{◌≡◌, ℕ, length, Result, sym, ap, ◌∙◌}
+use Rattle.std.proofs.Common.{◌≡◌, length, Result, sym, ap, ◌∙◌}
 use Rattle.tile.specs.declared.fault.Ground.{Ground}
 use Rattle.tile.specs.Answers.{answered}
 use Rattle.dump.specs.declared.reader.Record.{Record}

@@ -1,4 +1,4 @@
-use Rattle.std.proofs.Common.{◌≡◌, is_some, sym, ap, ◌∙◌, arith}
+use Rattle.std.proofs.Common.{is_some, sym, ap, ◌∙◌, arith}
 use Rattle.dump.proofs.Lawful.{body-told}
 use Rattle.dump.proofs.PixelRecords.{not-lawful, past_end, sound}
 use Rattle.dump.proofs.order.at_pixel.Goals as goal

@@ -1,4 +1,4 @@
-use Rattle.std.proofs.Common.{◌≡◌, Some, sym, ap, ◌∙◌, arith}
+use Rattle.std.proofs.Common.{Some, sym, ap, ◌∙◌, arith}
 use Rattle.dump.specs.Bytes.{words_in}
 use Rattle.dump.proofs.Spelled.{length-words_in, word_in, no_word, some_word}
 use Rattle.dump.proofs.words.body_word.Goals as goal

@@ -1,4 +1,4 @@
-use Rattle.std.proofs.Common.{◌≡◌, sym, ◌∙◌, arith, below_more}
+use Rattle.std.proofs.Common.{sym, ◌∙◌, arith, below_more}
 use Rattle.dump.specs.Bytes.{words_in}
 use Rattle.dump.proofs.Spelled.{length-words_in, word_in, zeros, no_zeros}
 use Rattle.dump.proofs.words.is_blank.Goals as goal

@@ -1,11 +1,10 @@
-use Rattle.std.proofs.Common.{◌≡◌, ℕ, ltb, List, length, Some, None, Ok, Err, Option, sym, refl, ap, ◌∙◌, arith}
+use Rattle.std.proofs.Common.{◌≡◌, ℕ, ltb, List, length, Some, None, Ok, Err, sym, ap, ◌∙◌, arith}
 use Rattle.std.proofs.lemmas.Result.{err_from_is_err_and}
 use Rattle.tile.specs.declared.fault.Fault.{Fault}
-use Rattle.tile.specs.declared.fault.Ground.{Ground}
 use Rattle.tile.specs.declared.fault.Ground.TheVariants.{TooShort}
 use Rattle.link.specs.Model.{LinkModel, Holds, put}
-use Rattle.link.specs.Calls.{first, answered, kept, filled_with, send_ground, read_ground, clear_ground, Send, Read, Clear}
-use Rattle.link.specs.Echo.{or_else, echo_ground, Echo}
+use Rattle.link.specs.Calls.{first, send_ground, read_ground, clear_ground, Send, Read, Clear}
+use Rattle.link.specs.Echo.{echo_ground, Echo}
 use Rattle.link.proofs.Links.{accepted, refused, send_permitted, changed-here}
 use Rattle.link.proofs.echo.echo.Goals as goal
 

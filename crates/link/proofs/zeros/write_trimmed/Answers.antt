@@ -1,6 +1,5 @@
-use Rattle.std.proofs.Common.{◌≡◌, ◌-◌, arith, rules}
+use Rattle.std.proofs.Common.{◌≡◌, ◌-◌, rules}
 use Rattle.std.proofs.lemmas.List.{places}
-use Rattle.std.proofs.lemmas.Slice.{overwrites}
 use Rattle.link.specs.Trim.{ending}
 use Rattle.link.proofs.Trims.{written}
 use Rattle.link.proofs.zeros.write_trimmed.Goals as goal

@@ -5,11 +5,11 @@ use Rattle.plan.proofs.examples.examples_stand.Goals as goal
 pub returns : goal.returns
 unfolding span
 returns c = record {
-  radix-ends = refl;
-  radix-sends = refl;
+  radix_ends = refl;
+  radix_sends = refl;
   swap_groups = refl;
   swap_holds = refl;
   swap_sizes = refl;
-  swap-sends = refl;
-  not-inside = (4, (lit≤ tt, lit≤ tt), λ i. omega arith);
+  swap_sends = refl;
+  not_inside = (4, (lit≤ tt, lit≤ tt), λ i. omega arith);
 }

@@ -9,7 +9,7 @@ loop-i-init g c = put_none c.args.place c.args.area.now
 pub put_between-next-requires : goal.put_between-next-requires
 put_between-next-requires g c =
     let m = g.P.Plan.model c.args.plan.now in
-    let fits = m.group-within (suc c.args.round) c.args.sender (omega arith) c.requires.1 in
+    let fits = m.group_within (suc c.args.round) c.args.sender (omega arith) c.requires.1 in
     let start = ap (λ x. x.start) c.next_group-group.ensures in
     let len = ap (λ x. x.len) c.next_group-group.ensures in
     let few = up_to-short (to_place m c.args.round c.args.sender) 1 c.loop-i.i (λ j h. between-short m c.args.round c.args.sender _) in

@@ -1,4 +1,4 @@
-use Rattle.std.proofs.Common.{◌≡◌, ◌++◌, length, take, drop}
+use Rattle.std.proofs.Common.{◌≡◌, ◌++◌, take, drop}
 use Rattle.tile.specs.Rows.{picture, zipped}
 use Rattle.tile.proofs.rows.join_rows.Given as goal
 

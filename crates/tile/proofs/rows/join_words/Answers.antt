@@ -1,4 +1,4 @@
-use Rattle.std.proofs.Common.{◌≡◌, ℕ, ◌+◌, ◌-◌, ◌*◌, ◌<◌, ◌≤◌, length, get_or, take, drop, set, Some, None, sym, ap, ◌∙◌, ap₂, arith}
+use Rattle.std.proofs.Common.{◌≡◌, ℕ, ◌+◌, ◌-◌, ◌*◌, ◌<◌, ◌≤◌, length, get_or, take, drop, set, Some, None, sym, ap, ◌∙◌, arith}
 use Rattle.std.proofs.lemmas.List.{map-set, length-map}
 use Rattle.tile.specs.Rows.{picture}
 use Rattle.tile.proofs.RowLaws.{row_room, joined_row, zipped-more, zipped-all, picture-read, read-part}
@@ -44,7 +44,7 @@ loop-i-preserved g c ps e n =
           let over = t.from_record.result in
           let got : Some under ≡ Some (get_or ps i under) = t.in-Some.ensures ∙ ap m.reads part ∙ read-part m laws ws ps i under there e in
           let under-is : under ≡ get_or ps i under = cc in
-          let written = ap m.meaning t.to_record.ensures ∙ laws.meaning-plain t.join.result ∙ t.join.ensures in
+          let written = ap m.meaning t.to_record.ensures ∙ laws.meaning_plain t.join.result ∙ t.join.ensures in
           ap (picture m) t.front-is
           ∙ map-set m.meaning c.loop-i.front i t.to_record.result
           ∙ ap (set (picture m c.loop-i.front) i) written

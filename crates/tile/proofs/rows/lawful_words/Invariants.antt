@@ -1,4 +1,4 @@
-use Rattle.std.proofs.Common.{◌≡◌, ◌*◌, List, length, take}
+use Rattle.std.proofs.Common.{◌≡◌, ◌*◌, List, take}
 use Rattle.std.specs.List.{flat_map}
 use Rattle.tile.proofs.rows.lawful_words.Given as goal
 

@@ -1,4 +1,4 @@
-use Rattle.std.proofs.Common.{◌≡◌, ◌+◌, ◌*◌, ◌/◌, ◌<◌, ◌≤◌, ◌++◌, length, take, drop, sym, refl, ap, ◌∙◌, ap₂, add-mul, arith, rules}
+use Rattle.std.proofs.Common.{◌≡◌, ◌+◌, ◌*◌, ◌<◌, ◌≤◌, ◌++◌, length, take, drop, sym, refl, ap, ◌∙◌, ap₂, add-mul, arith, rules}
 use Rattle.std.proofs.lemmas.List.{length-take-le, take_all}
 use Rattle.tile.specs.Rows.{row_words}
 use Rattle.tile.proofs.RowLaws.{part-fits, too_short, all_fit, length-words, words_more, written-more, part_length}
@@ -40,7 +40,7 @@ returns-in_err-write g c =
     let at = c.loop-i.i * c.width-width.result in
     let part = part-fits c.loop-i.i (length c.args.row.now) c.width-width.result (length c.args.out.now) c.loop-i-test.true c.if-out-width.false in
     let short = c.in_err-write.ensures.0 in
-    let none : ⊥ = omega (arith, part_length c.loop-i.out at, laws.words-length c.from_record.result) in
+    let none : ⊥ = omega (arith, part_length c.loop-i.out at, laws.words_length c.from_record.result) in
     absurd none
 
 pub loop-i-preserved : goal.loop-i-preserved
@@ -52,7 +52,7 @@ loop-i-preserved g c =
     let w = c.width-width.result in
     let within : i ≤ length row = omega arith in
     let front = length-words m laws (take i row) ∙ ap₂ ◌*◌ (length-take-le i row within) (sym c.width-width.ensures) in
-    let wide = laws.words-length c.from_record.result ∙ sym c.width-width.ensures in
+    let wide = laws.words_length c.from_record.result ∙ sym c.width-width.ensures in
     let more : row_words m (take (i + 1) row) ≡ row_words m (take i row) ++ m.words c.from_record.result = search (rules, words_more m laws row i) in
     let next : i * w + w ≡ (i + 1) * w = omega (arith, add-mul i 1 w) in
     written-more (row_words m (take i row)) (m.words c.from_record.result) c.args.out.now c.loop-i.out c.write.new.out (i * w) w front wide c.loop-i.invariant c.in_ok-write.ensures.1

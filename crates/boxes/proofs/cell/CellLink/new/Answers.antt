@@ -1,4 +1,4 @@
-use Rattle.std.proofs.Common.{◌≡◌, sym, ap, ◌∙◌}
+use Rattle.std.proofs.Common.{sym, ap, ◌∙◌}
 use Rattle.boxes.proofs.Cells.{cells_vacant, no_cells}
 use Rattle.boxes.specs.Cells.{cell_model}
 use Rattle.boxes.proofs.cell.CellLink.new.Goals as goal

@@ -1,4 +1,4 @@
-use Rattle.std.proofs.Common.{◌≡◌, ◌+◌, sym, arith, rules}
+use Rattle.std.proofs.Common.{◌≡◌, ◌+◌, sym, arith}
 use Rattle.boxes.proofs.LineCalls.{read_none, next-within, size-short, read_done}
 use Rattle.boxes.proofs.line.LineLink.read_words.Goals as goal
 

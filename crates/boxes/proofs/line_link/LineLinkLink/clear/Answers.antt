@@ -1,4 +1,4 @@
-use Rattle.std.proofs.Common.{◌≡◌, ◌+◌, ◌-◌, length, get_or, drop, sym, ap, arith, rules}
+use Rattle.std.proofs.Common.{◌+◌, ◌-◌, length, get_or, drop, sym, ap, arith}
 use Rattle.std.proofs.lemmas.List.{length-drop}
 use Rattle.std.proofs.lemmas.List.Edits.{length-paste}
 use Rattle.boxes.proofs.LineCalls.{clear_none, clear_none_order, clear_order, next-within, short_spelt, short_good, short_words, clear_spelt, clear_good, clear_words, clear_done, good_moved, clear_moved}

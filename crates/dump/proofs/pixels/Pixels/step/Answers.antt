@@ -1,4 +1,4 @@
-use Rattle.std.proofs.Common.{◌≡◌, ℕ, List, ◌++◌, length, drop, sym, ap, ◌∙◌, ap₂, arith}
+use Rattle.std.proofs.Common.{ℕ, List, ◌++◌, length, drop, sym, ap, ◌∙◌, ap₂, arith}
 use Rattle.dump.specs.Grammar.{Placed}
 use Rattle.dump.specs.Pixels.{pixels_from}
 use Rattle.dump.proofs.Answered.{ok_told, err_told}

@@ -1,8 +1,7 @@
-use Rattle.std.proofs.Common.{◌≡◌, ◌-◌, ◌≤◌, true, length, take, Some, None, sym, ap, ◌∙◌, subst, arith, rules}
+use Rattle.std.proofs.Common.{◌≡◌, ◌-◌, ◌≤◌, true, length, take, Some, None, sym, subst, rules}
 use Rattle.std.proofs.lemmas.List.{length-take-le}
 use Rattle.std.proofs.lemmas.Result.{err_from_is_err_and}
 use Rattle.link.specs.Model.{is_pair}
-use Rattle.link.specs.Calls.{Read}
 use Rattle.link.specs.Trim.{untrimmed, ReadInto}
 use Rattle.link.proofs.Links.{length-read}
 use Rattle.link.proofs.Layers.{trim_read, trim_read-refused}
