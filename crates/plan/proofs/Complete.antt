@@ -3,7 +3,7 @@ use Rattle.std.proofs.Common.{◌≡◌, ℕ, zero, suc, ◌+◌, ◌-◌, ◌<�
 use borrow.Author.Tests.{eqb-false}
 use Rattle.std.proofs.ByRecursion.{All-append, All-weaker}
 use Rattle.std.proofs.lemmas.List.{append_assoc, length-append}
-use Rattle.std.specs.List.{AllByRecursion as All}
+use Rattle.std.specs.List.{AllByRecursion}
 use Rattle.plan.specs.Shares.{order}
 use Rattle.plan.specs.declared.transfer.Transfer.{Transfer}
 use Rattle.plan.specs.Model.{PlanModel}
@@ -11,16 +11,16 @@ use Rattle.plan.specs.Order.{up_to, between, to_place, from, in_round, all_round
 use Rattle.plan.specs.Transfers.{transfer_of, IsTransfer, Once, Lists}
 use Rattle.plan.proofs.Putting.{between_is}
 
-up_to-all : (P : Transfer → Type 0) (g : ℕ → List Transfer) (n : ℕ) → ((j : ℕ) → j < n → All P (g j)) → All P (up_to g n)
+up_to-all : (P : Transfer → Type 0) (g : ℕ → List Transfer) (n : ℕ) → ((j : ℕ) → j < n → AllByRecursion P (g j)) → AllByRecursion P (up_to g n)
 up_to-all P g zero h = tt
 up_to-all P g (suc n) h = All-append P (up_to g n) (g n) (up_to-all P g n (λ j l. h j (omega arith))) (h n (omega arith))
 
 -- where every entry of g j tells j by its key, x stands once in all if it stands once in its own
 module _ (key : Transfer → ℕ) (g : ℕ → List Transfer) (x : Transfer) where
-  apart : (j : ℕ) → All (λ y. key y ≡ j) (g j) → (key x ≡ j → ⊥) → All (λ y. y ≡ x → ⊥) (g j)
+  apart : (j : ℕ) → AllByRecursion (λ y. key y ≡ j) (g j) → (key x ≡ j → ⊥) → AllByRecursion (λ y. y ≡ x → ⊥) (g j)
   apart j a ne = All-weaker (λ y. key y ≡ j) (λ y. y ≡ x → ⊥) (λ y k e. ne (ap key (sym e) ∙ k)) (g j) a
 
-  once-up_to : (n : ℕ) → ((j : ℕ) → j < n → All (λ y. key y ≡ j) (g j)) → key x < n → Once x (g (key x)) → Once x (up_to g n)
+  once-up_to : (n : ℕ) → ((j : ℕ) → j < n → AllByRecursion (λ y. key y ≡ j) (g j)) → key x < n → Once x (g (key x)) → Once x (up_to g n)
   once-up_to zero keys h o = absurd (omega arith)
   once-up_to (suc n) keys h o =
       ⊎_elim
@@ -29,33 +29,33 @@ module _ (key : Transfer → ℕ) (g : ℕ → List Transfer) (x : Transfer) whe
       let a = ih.0 in
       let b = ih.1 in
       let none = apart n (keys n (omega arith)) (λ e. omega arith) in
-      (a, b ++ g n, ap (λ ys. ys ++ g n) ih.2 ∙ append_assoc a (x ∷ b) (g n), subst (All (λ y. y ≡ x → ⊥)) (append_assoc a b (g n)) (All-append (λ y. y ≡ x → ⊥) (a ++ b) (g n) ih.3 none)))
+      (a, b ++ g n, ap (λ ys. ys ++ g n) ih.2 ∙ append_assoc a (x ∷ b) (g n), subst (AllByRecursion (λ y. y ≡ x → ⊥)) (append_assoc a b (g n)) (All-append (λ y. y ≡ x → ⊥) (a ++ b) (g n) ih.3 none)))
       (λ (l : n ≤ key x).
       let here : key x ≡ n = omega arith in
       let at = subst (λ j. Once x (g j)) here o in
       let a = at.0 in
       let b = at.1 in
       let none = up_to-all (λ y. y ≡ x → ⊥) g n (λ j k. apart j (keys j (omega arith)) (λ e. omega arith)) in
-      (up_to g n ++ a, b, ap (λ ys. up_to g n ++ ys) at.2 ∙ sym (append_assoc (up_to g n) a (x ∷ b)), subst (All (λ y. y ≡ x → ⊥)) (sym (append_assoc (up_to g n) a b)) (All-append (λ y. y ≡ x → ⊥) (up_to g n) (a ++ b) none at.3)))
+      (up_to g n ++ a, b, ap (λ ys. up_to g n ++ ys) at.2 ∙ sym (append_assoc (up_to g n) a (x ∷ b)), subst (AllByRecursion (λ y. y ≡ x → ⊥)) (sym (append_assoc (up_to g n) a b)) (All-append (λ y. y ≡ x → ⊥) (up_to g n) (a ++ b) none at.3)))
       (order (key x) n)
 
 module _ (m : PlanModel) where
   module _ (P : Transfer → Type 0) (t f r : ℕ) (h : (f ≡ r → ⊥) → ((transfer_of m t f r).piece.len ≡ 0 → ⊥) → P (transfer_of m t f r)) where
-    some : (b : Bool) → (f ≡ r → ⊥) → eqb (transfer_of m t f r).piece.len 0 ≡ b → All P (cond b [] (transfer_of m t f r ∷ []))
+    some : (b : Bool) → (f ≡ r → ⊥) → eqb (transfer_of m t f r).piece.len 0 ≡ b → AllByRecursion P (cond b [] (transfer_of m t f r ∷ []))
     some true ne e = tt
     some false ne e = (h ne (eqb-false (transfer_of m t f r).piece.len 0 e), tt)
 
-    other : (b : Bool) → eqb f r ≡ b → All P (cond b [] (cond (eqb (transfer_of m t f r).piece.len 0) [] (transfer_of m t f r ∷ [])))
+    other : (b : Bool) → eqb f r ≡ b → AllByRecursion P (cond b [] (cond (eqb (transfer_of m t f r).piece.len 0) [] (transfer_of m t f r ∷ [])))
     other true e = tt
     other false e = some (eqb (transfer_of m t f r).piece.len 0) (eqb-false f r e) refl
 
-    between_all : All P (between m t f r)
+    between_all : AllByRecursion P (between m t f r)
     between_all = other (eqb f r) refl
 
-  from_all : (P : Transfer → Type 0) (t f : ℕ) → ((i : ℕ) → i < (m.group (suc t) f).len → (f ≡ (m.group (suc t) f).start + i → ⊥) → ((transfer_of m t f ((m.group (suc t) f).start + i)).piece.len ≡ 0 → ⊥) → P (transfer_of m t f ((m.group (suc t) f).start + i))) → All P (from m t f)
+  from_all : (P : Transfer → Type 0) (t f : ℕ) → ((i : ℕ) → i < (m.group (suc t) f).len → (f ≡ (m.group (suc t) f).start + i → ⊥) → ((transfer_of m t f ((m.group (suc t) f).start + i)).piece.len ≡ 0 → ⊥) → P (transfer_of m t f ((m.group (suc t) f).start + i))) → AllByRecursion P (from m t f)
   from_all P t f h = up_to-all P (to_place m t f) (m.group (suc t) f).len (λ i l. between_all P t f ((m.group (suc t) f).start + i) (h i l))
 
-  pub sound : All (IsTransfer m) (all_rounds m)
+  pub sound : AllByRecursion (IsTransfer m) (all_rounds m)
   sound =
       up_to-all (IsTransfer m) (in_round m) m.rounds (λ t lt.
       up_to-all (IsTransfer m) (from m t) m.ranks (λ f lf.
@@ -91,7 +91,7 @@ abbrev Distinct : List Transfer → Type 0
 Distinct [] = Unit {0}
 Distinct (y ∷ ys) = (Among y ys → ⊥) × Distinct ys
 
-all_among : (P : Transfer → Type 0) (xs : List Transfer) (x : Transfer) → All P xs → Among x xs → P x
+all_among : (P : Transfer → Type 0) (xs : List Transfer) (x : Transfer) → AllByRecursion P xs → Among x xs → P x
 all_among P [] x a i = absurd i
 all_among P (y ∷ ys) x a i = ⊎_elim (λ (e : x ≡ y). subst P (sym e) a.0) (λ (k : Among x ys). all_among P ys x a.1 k) i
 
@@ -107,14 +107,14 @@ others : (x y : Transfer) (a b : List Transfer) → (x ≡ y → ⊥) → Among 
 others x y [] b ne i = ⊎_elim (λ (e : x ≡ y). absurd (ne e)) (λ (k : Among x b). k) i
 others x y (z ∷ a) b ne i = ⊎_elim (λ (e : x ≡ z). inl e) (λ (k : Among x (a ++ y ∷ b)). inr (others x y a b ne k)) i
 
-none_among : (x : Transfer) (xs : List Transfer) → All (λ y. y ≡ x → ⊥) xs → Among x xs → ⊥
+none_among : (x : Transfer) (xs : List Transfer) → AllByRecursion (λ y. y ≡ x → ⊥) xs → Among x xs → ⊥
 none_among x xs a i = all_among (λ y. y ≡ x → ⊥) xs x a i refl
 
-head_apart : (y : Transfer) (ys a b : List Transfer) → y ∷ ys ≡ a ++ y ∷ b → All (λ z. z ≡ y → ⊥) (a ++ b) → Among y ys → ⊥
+head_apart : (y : Transfer) (ys a b : List Transfer) → y ∷ ys ≡ a ++ y ∷ b → AllByRecursion (λ z. z ≡ y → ⊥) (a ++ b) → Among y ys → ⊥
 head_apart y ys [] b e none i = let same : ys ≡ b = cc in none_among y b none (subst (Among y) same i)
 head_apart y ys (z ∷ a) b e none i = let same : z ≡ y = cc in none.0 same
 
-tail_once : (x y : Transfer) (ys a b : List Transfer) → y ∷ ys ≡ a ++ x ∷ b → All (λ z. z ≡ x → ⊥) (a ++ b) → Among x ys → Once x ys
+tail_once : (x y : Transfer) (ys a b : List Transfer) → y ∷ ys ≡ a ++ x ∷ b → AllByRecursion (λ z. z ≡ x → ⊥) (a ++ b) → Among x ys → Once x ys
 tail_once x y ys [] b e none i = let same : ys ≡ b = cc in absurd (none_among x b none (subst (Among x) same i))
 tail_once x y ys (z ∷ a) b e none i = let same : ys ≡ a ++ x ∷ b = cc in (a, b, same, none.1)
 

@@ -1,6 +1,6 @@
 -- The transfer list. Assumes nothing.
 use Rattle.std.specs.Prelude.{◌≡◌, ℕ, suc, ◌<◌, ◌≤◌, List, ◌∷◌, ◌++◌, length, take, drop, Ok, Err, Result, ◌≢◌}
-use Rattle.std.specs.List.{AllByRecursion as All}
+use Rattle.std.specs.List.{AllByRecursion}
 use Rattle.tile.specs.declared.fault.Fault.{Fault}
 use Rattle.tile.specs.declared.fault.Ground.TheVariants.{TooShort}
 use Rattle.tile.specs.Faults.{unranked}
@@ -24,11 +24,11 @@ pub record IsTransfer (p : PlanModel) (x : Transfer) : Type 0 where
 
 -- x stands in the list exactly once
 abbrev pub Once : Transfer → List Transfer → Type 0
-Once x xs = (front : List Transfer) × (back : List Transfer) × (xs ≡ front ++ x ∷ back) × All (λ y. y ≢ x) (front ++ back)
+Once x xs = (front : List Transfer) × (back : List Transfer) × (xs ≡ front ++ x ∷ back) × AllByRecursion (λ y. y ≢ x) (front ++ back)
 
 pub record Lists (p : PlanModel) (xs : List Transfer) : Type 0 where
   -- nothing else is there
-  pub sound : All (IsTransfer p) xs
+  pub sound : AllByRecursion (IsTransfer p) xs
   -- every piece is there, and none twice
   pub complete : (x : Transfer) → IsTransfer p x → Once x xs
 

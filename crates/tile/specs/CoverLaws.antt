@@ -40,8 +40,8 @@ module _ (p : Coverage) where
   pub plane-word : (k : ℕ) → slice_index p.planes k < 2 ^ 32
   plane-word k = inside-word p.mask (slice_index p.planes k) p.lawful.0 (p.lawful.2 k)
 
-  planes-are : (f : ℕ → ℕ) → ((k : ℕ) → f k ≡ slice_index p.planes k) → four f ≡ p.planes
-  planes-are f e = same-four f (λ k. slice_index p.planes k) e ∙ four_is p.planes p.lawful.1
+  planes_are : (f : ℕ → ℕ) → ((k : ℕ) → f k ≡ slice_index p.planes k) → four f ≡ p.planes
+  planes_are f e = same-four f (λ k. slice_index p.planes k) e ∙ four_is p.planes p.lawful.1
 
   pub low_mask : low p.mask ≡ p.mask
   low_mask = mod-eq_of_lt p.lawful.0
@@ -49,18 +49,18 @@ module _ (p : Coverage) where
   pub meaning_plain : meaning (coverage.plain p) ≡ p
   meaning_plain =
       same-coverage _ _ low_mask
-      (planes-are (λ k. bit_and (slice_index p.planes k) (low p.mask))
+      (planes_are (λ k. bit_and (slice_index p.planes k) (low p.mask))
       (λ k. ap (bit_and (slice_index p.planes k)) low_mask ∙ p.lawful.2 k))
 
   pub left : join blank p ≡ p
   left =
       same-coverage _ _ refl
-      (planes-are (λ k. over 0 0 (slice_index p.planes k)) (λ k. and_mask (slice_index p.planes k) 32 ∙ mod-eq_of_lt (plane-word k)))
+      (planes_are (λ k. over 0 0 (slice_index p.planes k)) (λ k. and_mask (slice_index p.planes k) 32 ∙ mod-eq_of_lt (plane-word k)))
 
   pub right : join p blank ≡ p
   right =
       same-coverage _ _ (or_zero_r p.mask)
-      (planes-are (λ k. over p.mask (slice_index p.planes k) 0) (λ k. or_zero_r (slice_index p.planes k)))
+      (planes_are (λ k. over p.mask (slice_index p.planes k) 0) (λ k. or_zero_r (slice_index p.planes k)))
 
   pub are_words : AreWords (coverage.words p)
   are_words zero = p.lawful.0
