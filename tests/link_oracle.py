@@ -231,7 +231,7 @@ def compare(count):
             lines.append(f"{act} {f} {t}")
     replay = Replay()
     want = [replay.answer(line) for line in lines]
-    run = subprocess.run(["target/bin/tilemerge", "link"], input="\n".join(lines) + "\n", capture_output=True, text=True)
+    run = subprocess.run(["crates/tilemerge/out/tilemerge", "link"], input="\n".join(lines) + "\n", capture_output=True, text=True)
     got = run.stdout.split("\n")[:-1]
     tally = {}
     for row in want:

@@ -243,7 +243,7 @@ def compare(count):
     rng = random.Random(20)
     lines = [damaged(rng) for _ in range(count)]
     want = [row for line in lines for row in answer(line)]
-    run = subprocess.run(["target/bin/tilemerge", "inspect"], input="\n".join(lines) + "\n", capture_output=True, text=True)
+    run = subprocess.run(["crates/tilemerge/out/tilemerge", "inspect"], input="\n".join(lines) + "\n", capture_output=True, text=True)
     got = run.stdout.split("\n")[:-1]
     tally = {}
     for row in want:

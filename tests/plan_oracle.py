@@ -126,7 +126,7 @@ def compare():
                 tried.append(f"radix {product} 41 " + " ".join(map(str, factors)))
     tried += TABLE
     want = [row for line in tried for row in answer(line)]
-    run = subprocess.run(["target/bin/tilemerge", "plan"], input="\n".join(tried) + "\n", capture_output=True, text=True)
+    run = subprocess.run(["crates/tilemerge/out/tilemerge", "plan"], input="\n".join(tried) + "\n", capture_output=True, text=True)
     got = run.stdout.split("\n")[:-1]
     print("same" if got == want else "DIFFERENT", len(tried), "requests,", len(want), "lines")
     sys.exit(got != want)
