@@ -1,4 +1,5 @@
 // Coverage pixels as a kind.
+ghost use Rattle.std.specs.Prelude.{refl};
 ghost use Rattle.tile.specs.Cover.{coverage};
 ghost use Rattle.tile.specs.CoverLaws.{laws};
 
@@ -13,17 +14,17 @@ impl Pixel for Coverage {
 
     const WORDS: usize = 5;
 
+    ghost KIND = { 2 };
+
+    ghost WORDS = { 5 };
+
     ghost model = { coverage };
 
+    ghost same_number = { refl };
+
+    ghost same_width = { refl };
+
     ghost lawful = { laws };
-
-    fn number() -> u8 {
-        Self::KIND
-    }
-
-    fn width() -> usize {
-        Self::WORDS
-    }
 
     fn blank() -> Coverage {
         Coverage {

@@ -1,5 +1,5 @@
 // What a kind of pixel is.
-ghost use Rattle.std.specs.Prelude.{◌≡◌};
+ghost use Rattle.std.specs.Prelude.{◌≡◌, ℕ};
 ghost use Rattle.tile.specs.Kinds.{Kind, KindLaws};
 ghost use Rattle.tile.specs.Words.{Written};
 
@@ -9,21 +9,17 @@ pub trait Pixel: Copy {
     // A pixel as it lies in memory: every record stands for one pixel.
     type Record: Copy;
 
-    // The kind's number. Generic code takes it from `number`.
+    // The kind's number.
     const KIND: u8;
 
-    // How many words a pixel has. Generic code takes it from `width`.
+    // How many words a pixel has.
     const WORDS: usize;
 
+    ghost KIND: { ℕ };
+
+    ghost WORDS: { ℕ };
+
     ghost model: { Kind Self Self.Record };
-
-    // The kind's number.
-    fn number() -> u8
-        ensures { result ≡ model.number };
-
-    // How many words a pixel has.
-    fn width() -> usize
-        ensures { result ≡ model.width };
 
     // The pixel that covers nothing.
     fn blank() -> Self
@@ -48,6 +44,25 @@ pub trait Pixel: Copy {
     // The pixel whose words these are, if one has these words.
     fn read(words: &[u32]) -> Option<Self>
         ensures { result ≡ model.reads words.now };
+
+    // The kind's number, as its rules have it.
+    final fn number() -> u8
+        ensures { result ≡ model.number }
+    {
+        Self::KIND
+    }
+
+    // How many words a pixel has, as the kind's rules have it.
+    final fn width() -> usize
+        ensures { result ≡ model.width }
+    {
+        Self::WORDS
+    }
+
+    // The constants are those of the kind's rules.
+    ghost same_number: { KIND ≡ model.number };
+
+    ghost same_width: { WORDS ≡ model.width };
 
     ghost lawful: { KindLaws model };
 }

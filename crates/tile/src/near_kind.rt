@@ -1,4 +1,5 @@
 // Nearest pixels as a kind.
+ghost use Rattle.std.specs.Prelude.{refl};
 ghost use Rattle.tile.specs.Near.{nearest};
 ghost use Rattle.tile.specs.NearLaws.{laws};
 
@@ -13,17 +14,17 @@ impl Pixel for Nearest {
 
     const WORDS: usize = 2;
 
+    ghost KIND = { 1 };
+
+    ghost WORDS = { 2 };
+
     ghost model = { nearest };
 
+    ghost same_number = { refl };
+
+    ghost same_width = { refl };
+
     ghost lawful = { laws };
-
-    fn number() -> u8 {
-        Self::KIND
-    }
-
-    fn width() -> usize {
-        Self::WORDS
-    }
 
     fn blank() -> Nearest {
         Nearest {
