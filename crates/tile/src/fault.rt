@@ -6,7 +6,7 @@ ghost use Rattle.tile.specs.Faults.{number_of, ground_of, fault_number, fault_pa
 pub const NO_RANK: u32 = 4_294_967_295;
 
 // The ground of a refusal, in the order in which grounds are tried.
-#[derive(Clone, Copy, Debug)]
+#[derive(Clone, Copy, Debug, PartialEq, Eq)]
 pub enum Ground {
     UnknownRecord = 1,
     CutShort = 2,
@@ -31,7 +31,7 @@ pub enum Ground {
 }
 
 // A refusal: its ground, and what it concerns.
-#[derive(Clone, Copy, Debug)]
+#[derive(Clone, Copy, Debug, PartialEq, Eq)]
 pub enum Fault {
     // The dump reader refuses the record at `place`.
     Dump {

@@ -14,13 +14,13 @@ returns-then-out-width g c =
     let all = length-words m laws c.args.row.now ∙ ap (λ n. length c.args.row.now * n) (sym c.width-width.ensures) in
     (omega arith, refl, c.unranked.ensures)
 
-pub overflow_mul-at : goal.overflow_mul-at
-overflow_mul-at g c =
+pub overflow_mul-i : goal.overflow_mul-i
+overflow_mul-i g c =
     let part = part-fits c.loop-i.i (length c.args.row.now) c.width-width.result (length c.args.out.now) c.loop-i-test.true c.if-out-width.false in
     omega arith
 
-pub offset_bounds-out-at : goal.offset_bounds-out-at
-offset_bounds-out-at g c =
+pub offset_bounds-out-i : goal.offset_bounds-out-i
+offset_bounds-out-i g c =
     let part = part-fits c.loop-i.i (length c.args.row.now) c.width-width.result (length c.args.out.now) c.loop-i-test.true c.if-out-width.false in
     omega arith
 
