@@ -36,6 +36,10 @@ four_is (a ∷ b ∷ c ∷ d ∷ x ∷ ps) h = absurd (omega arith)
 pub same-four : (f g : ℕ → ℕ) → ((k : ℕ) → f k ≡ g k) → four f ≡ four g
 same-four f g e i = four (λ k. e k i)
 
+-- planes of which each is given
+pub four_made : (f : ℕ → ℕ) (ps : List ℕ) → length ps ≡ 4 → slice_index ps 0 ≡ f 0 → slice_index ps 1 ≡ f 1 → slice_index ps 2 ≡ f 2 → slice_index ps 3 ≡ f 3 → ps ≡ four f
+four_made f ps l a b c d = sym (four_is ps l) ∙ (λ i. a i ∷ b i ∷ c i ∷ d i ∷ [])
+
 module _ (p : Coverage) where
   pub plane-word : (k : ℕ) → slice_index p.planes k < 2 ^ 32
   plane-word k = inside-word p.mask (slice_index p.planes k) p.lawful.0 (p.lawful.2 k)
@@ -103,7 +107,7 @@ assoc p q s =
     (λ k. over p.mask (slice_index p.planes k) (over q.mask (slice_index q.planes k) (slice_index s.planes k)))
     (λ k. over-assoc p.mask q.mask _ _ _ p.lawful.0 q.lawful.0 (plane-word p k) (plane-word q k) (plane-word s k)))
 
-inside_all : (m a b c d : ℕ) → Inside m a → Inside m b → Inside m c → Inside m d → (k : ℕ) → Inside m (slice_index (a ∷ b ∷ c ∷ d ∷ []) k)
+pub inside_all : (m a b c d : ℕ) → Inside m a → Inside m b → Inside m c → Inside m d → (k : ℕ) → Inside m (slice_index (a ∷ b ∷ c ∷ d ∷ []) k)
 inside_all m a b c d ia ib ic id zero = ia
 inside_all m a b c d ia ib ic id (suc zero) = ib
 inside_all m a b c d ia ib ic id (suc (suc zero)) = ic

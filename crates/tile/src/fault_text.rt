@@ -3,6 +3,7 @@ ghost use Rattle.std.specs.Prelude.{◌≡◌, Some};
 ghost use Rattle.tile.specs.Texts.{sentence, rank_text, fault_text};
 
 use crate::fault::{Fault, Ground, NO_RANK};
+use std::error::Error;
 use std::fmt;
 
 // What a ground means, in a few words.
@@ -57,13 +58,15 @@ impl fmt::Display for Fault {
 
     fn fmt<W: fmt::Write>(&self, f: &mut fmt::Formatter<W>) -> fmt::Result {
         let number = self.number();
-        let sentence = self.ground();
+        let cause = self.ground();
         let part = self.part();
         let rank = RankText(self.rank());
         let place = self.place();
         write!(
             f,
-            "refused {number}: {sentence} (part {part}, rank {rank}, place {place})"
+            "refused {number}: {cause} (part {part}, rank {rank}, place {place})"
         )
     }
 }
+
+impl Error for Fault {}

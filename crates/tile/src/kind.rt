@@ -5,9 +5,9 @@ ghost use Rattle.tile.specs.Words.{Written};
 
 use crate::fault::Fault;
 
-pub trait Pixel: Copy {
+pub trait Pixel: Copy + From<Self::Record> {
     // A pixel as it lies in memory: every record stands for one pixel.
-    type Record: Copy;
+    type Record: Copy + From<Self>;
 
     // The kind's number.
     const KIND: u8;
@@ -28,14 +28,6 @@ pub trait Pixel: Copy {
     // This pixel in front of `back`.
     fn join(self, back: Self) -> Self
         ensures { result ≡ model.join self back };
-
-    // The pixel that a record stands for.
-    fn from_record(plain: Self::Record) -> Self
-        ensures { result ≡ model.meaning plain };
-
-    // A record that stands for the pixel.
-    fn to_record(self) -> Self::Record
-        ensures { result ≡ model.plain self };
 
     // Puts the pixel's words first in `out`; refused where `out` is too short.
     fn write(self, out: &mut [u32]) -> Result<(), Fault>
@@ -58,6 +50,25 @@ pub trait Pixel: Copy {
     {
         Self::WORDS
     }
+
+    // The pixel that a record stands for.
+    final fn from_record(plain: Self::Record) -> Self
+        ensures { result ≡ model.meaning plain }
+    {
+        Self::from(plain)
+    }
+
+    // A record that stands for the pixel.
+    final fn to_record(self) -> Self::Record
+        ensures { result ≡ model.plain self }
+    {
+        Self::Record::from(self)
+    }
+
+    // A record becomes the pixel that it stands for, and a pixel a record that stands for it.
+    ghost means: { (r : Self.Record) (p : Self) → Self.from_gives r p → p ≡ model.meaning r };
+
+    ghost lies_as: { (p : Self) (r : Self.Record) → Self.Record.from_gives p r → r ≡ model.plain p };
 
     // The constants are those of the kind's rules.
     ghost same_number: { KIND ≡ model.number };
