@@ -1,8 +1,8 @@
 -- Coverage pixels. Assumes nothing.
 use Rattle.std.specs.Prelude.{◌≡◌, ℕ, zero, suc, ◌-◌, ◌^◌, ◌<◌, min, max, List, [], ◌∷◌, drop, slice_index, refl}
 use Rattle.std.proofs.Common.{sym, ap, ◌∙◌, arith}
-use Rattle.std.specs.Int.Bits.{bit_and, bit_or}
-use Rattle.std.proofs.lemmas.Nat.{and_le_l, and_le_r, or_lt}
+use Rattle.std.specs.Int.Bits.{bit_and, bit_or, and_self}
+use Rattle.std.proofs.lemmas.Nat.{and_assoc, and_le_l, and_le_r, or_lt}
 use Rattle.std.proofs.lemmas.Nat.Bits.{bit_at_and, bit_at_or, bit_at_not, same_from_bits_below}
 use Rattle.std.specs.Int.{bit_at}
 use mir.Syntax.{w32}
@@ -53,11 +53,8 @@ over-inside m n f b hm hn ef eb =
     (sym (bit_at_and f m k) ∙ ap (λ x. bit_at x k) ef) (sym (bit_at_and b n k) ∙ ap (λ x. bit_at x k) eb)
     ∙ sym o)
 
-pub and_inside : (m p : ℕ) → m < 2 ^ 32 → Inside m (bit_and p m)
-and_inside m p h =
-    let word : bit_and p m < 2 ^ 32 = omega (arith, and_le_r p m) in
-    same_from_bits_below 32 _ _ (omega (arith, and_le_l (bit_and p m) m)) word
-    (λ k l. bit_at_and (bit_and p m) m k ∙ omega (arith, bit_at_and p m k))
+pub and_inside : (m p : ℕ) → Inside m (bit_and p m)
+and_inside m p = and_assoc m p m ∙ ap (bit_and p) (and_self m)
 
 -- the pixel that a record stands for: bits outside the mask do not count
 abbrev pub meaning : CoverageRecord → Coverage
@@ -67,7 +64,7 @@ meaning r = record {
   lawful = (
     omega arith,
     refl,
-    four_inside (λ k. bit_and (slice_index r.planes k) (low r.mask)) (low r.mask) (λ k. and_inside (low r.mask) (slice_index r.planes k) (omega arith)),
+    four_inside (λ k. bit_and (slice_index r.planes k) (low r.mask)) (low r.mask) (λ k. and_inside (low r.mask) (slice_index r.planes k)),
   );
 }
 

@@ -7,7 +7,7 @@ use Rattle.std.proofs.Math.Bridge.{le_prop}
 use Rattle.std.proofs.Math.Nat.{ℕ_set, zero-max}
 use Rattle.std.specs.Int.Bits.{bit_or, or_zero_r}
 use Rattle.std.proofs.lemmas.Nat.{and_mask, or_lt}
-use Rattle.std.proofs.lemmas.Nat.Bits.{bit_at_or, same_from_bits_below}
+use Rattle.std.proofs.lemmas.Nat.Bits.{bit_at_or, same_from_bits, same_from_bits_below}
 use Rattle.std.specs.Int.{bit_at}
 use Rattle.tile.specs.Cover.{coverage, join, blank, meaning, words, of_words, four, over, over-bit, over_word, inside-word}
 use Rattle.tile.specs.Kinds.{KindLaws}
@@ -71,10 +71,8 @@ module _ (p : Coverage) where
   are_words zero = p.lawful.0
   are_words (suc k) = plane-word k
 
-or_assoc : (a b c : ℕ) → a < 2 ^ 32 → b < 2 ^ 32 → c < 2 ^ 32 → bit_or (bit_or a b) c ≡ bit_or a (bit_or b c)
-or_assoc a b c ha hb hc =
-    same_from_bits_below 32 _ _ (or_lt 32 (bit_or a b) c (or_lt 32 a b ha hb) hc) (or_lt 32 a (bit_or b c) ha (or_lt 32 b c hb hc))
-    (λ k l. omega (arith, bit_at_or (bit_or a b) c k, bit_at_or a b k, bit_at_or a (bit_or b c) k, bit_at_or b c k))
+or_assoc : (a b c : ℕ) → bit_or (bit_or a b) c ≡ bit_or a (bit_or b c)
+or_assoc a b c = same_from_bits _ _ (λ k. omega (arith, bit_at_or (bit_or a b) c k, bit_at_or a b k, bit_at_or a (bit_or b c) k, bit_at_or b c k))
 
 -- one sample that the front does not cover, and one that it does
 past-front : (f b x : ℕ) → b < 2 → x < 2 → max (max f (min b 1)) x ≡ max f (min (max b x) 1)
@@ -102,7 +100,7 @@ over-assoc m n f b c hm hn hf hb hc =
 
 pub assoc : (p q s : Coverage) → join (join p q) s ≡ join p (join q s)
 assoc p q s =
-    same-coverage _ _ (or_assoc p.mask q.mask s.mask p.lawful.0 q.lawful.0 s.lawful.0)
+    same-coverage _ _ (or_assoc p.mask q.mask s.mask)
     (same-four
     (λ k. over (bit_or p.mask q.mask) (over p.mask (slice_index p.planes k) (slice_index q.planes k)) (slice_index s.planes k))
     (λ k. over p.mask (slice_index p.planes k) (over q.mask (slice_index q.planes k) (slice_index s.planes k)))

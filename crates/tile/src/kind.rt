@@ -34,6 +34,7 @@ pub trait Pixel: Copy + From<Self::Record> {
         ensures { Written (model.words self) out.old out.new result };
 
     // The pixel whose words these are, if one has these words.
+    // Stays: TryFrom<&[u32]> as a supertrait needs a bound under for<'a>, which gets no proof.
     fn read(words: &[u32]) -> Option<Self>
         ensures { result ≡ model.reads words.now };
 

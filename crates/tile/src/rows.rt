@@ -14,6 +14,7 @@ pub fn write_row<P: Pixel>(row: &[P::Record], out: &mut [u32]) -> Result<(), Fau
     if out.len() / width < row.len() {
         return Err(unranked(Ground::TooShort));
     }
+    // Stays: the place in `out` is counted, since after a walk by `chunks_exact_mut` a proof knows its length alone.
     for (i, record) in row.iter().enumerate() {
         P::from_record(*record).write(&mut out[i * width..])?;
     }
@@ -45,6 +46,7 @@ pub fn join_rows<P: Pixel>(front: &mut [P::Record], back: &[P::Record]) -> Resul
     if front.len() != back.len() {
         return Err(unranked(Ground::TooShort));
     }
+    // Stays: `front` is written by index, since after a `zip` of its `iter_mut` a proof knows its length alone.
     for (i, record) in back.iter().enumerate() {
         let over = P::from_record(front[i]);
         let under = P::from_record(*record);
@@ -60,6 +62,7 @@ pub fn join_words<P: Pixel>(front: &mut [P::Record], words: &[u32]) -> Result<()
     if !is_row::<P>(words, front.len()) {
         return Err(unranked(Ground::BadMessage));
     }
+    // Stays: `front` is written by index, since after a `zip` of its `iter_mut` a proof knows its length alone.
     for (i, pixel) in words.chunks_exact(P::width()).enumerate() {
         if let Some(under) = P::read(pixel) {
             let over = &mut front[i];

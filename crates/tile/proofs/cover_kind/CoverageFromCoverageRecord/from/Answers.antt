@@ -13,7 +13,7 @@ invariant_of-result c =
     let word : m < 2 ^ 32 = omega arith in
     let made = four_made f c.map.result c.map.ensures.items.long (search rules) (search rules) (search rules) (search rules) in
     let P : List ℕ → Type 0 = λ ps. (length ps ≡ 4) × ((k : ℕ) → Inside m (get_or ps k 0)) in
-    let lawful : P c.map.result = subst P (sym made) (refl, four_inside f m (λ k. and_inside m (get_or c.args.plain.planes k 0) word)) in
+    let lawful : P c.map.result = subst P (sym made) (refl, four_inside f m (λ k. and_inside m (get_or c.args.plain.planes k 0))) in
     record { lawful = (word, lawful.0, lawful.1) }
 
 pub returns : goal.returns
