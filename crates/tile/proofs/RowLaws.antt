@@ -55,12 +55,7 @@ module _ {P R : Type 0} (m : Kind P R) where
   pub picture-read : (rs : List R) (i : ℕ) (r : R) (p : P) → i < length rs → r ≡ get_or rs i r → p ≡ m.meaning r → p ≡ get_or (picture m rs) i p
   picture-read rs i r p h is e = e ∙ ap m.meaning is ∙ sym (get_or-map m.meaning rs i r p h)
 
--- the part of pixel i, of n that fit into l words
-pub part-fits : (i n w l : ℕ) → i < n → n ≤ l / w → i * w + w ≤ l
-part-fits i n w l h k =
-    let p : suc i * w ≤ l / w * w = mul-le-mul_right w (omega arith) in
-    omega (arith, p, suc-mul i w, div-add-mod' l w)
-
+-- n pixels of w words that fit into l words, and that do not
 pub all_fit : (n w l : ℕ) → n ≤ l / w → n * w ≤ l
 all_fit n w l k = let p : n * w ≤ l / w * w = mul-le-mul_right w k in omega (arith, p, div-add-mod' l w)
 
@@ -68,10 +63,6 @@ pub too_short : (n w l : ℕ) → l / w < n → 0 < w → l < n * w
 too_short n w l h k =
     let p : suc (l / w) * w ≤ n * w = mul-le-mul_right w (omega arith) in
     omega (arith, p, suc-mul (l / w) w, div-add-mod' l w, mod_below l w k)
-
--- a part of `out` from `at` on, taken as a slice
-pub part_length : (out : List ℕ) (at : ℕ) → length (take (length out - at) (drop at out)) ≡ length out - at
-part_length out at = ap length (take_rest out at) ∙ length-drop at out
 
 -- the words ws, written behind the words A
 pub written-more : (A ws out₀ out after : List ℕ) (at w : ℕ) → length A ≡ at → length ws ≡ w → out ≡ A ++ drop at out₀ → after ≡ ws ++ drop (length ws) (take (length out - at) (drop at out)) → put_mid at (length out - at) out after ≡ (A ++ ws) ++ drop (at + w) out₀
