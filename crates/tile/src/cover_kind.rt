@@ -21,6 +21,7 @@ impl From<CoverageRecord> for Coverage {
     }
 }
 
+// The pixel as it lies in memory.
 impl From<Coverage> for CoverageRecord {
     ghost from_gives = { λ p r. r ≡ coverage.plain p };
 

@@ -53,6 +53,7 @@ impl fmt::Display for RankText {
     }
 }
 
+// The line that tells a fault.
 impl fmt::Display for Fault {
     ghost output = { λ x. Some (fault_text x) };
 

@@ -66,9 +66,10 @@ pub trait Pixel: Copy + From<Self::Record> {
         Self::Record::from(self)
     }
 
-    // A record becomes the pixel that it stands for, and a pixel a record that stands for it.
+    // A record becomes the pixel that it stands for.
     ghost means: { (r : Self.Record) (p : Self) → Self.from_gives r p → p ≡ model.meaning r };
 
+    // A pixel becomes a record that stands for it.
     ghost lies_as: { (p : Self) (r : Self.Record) → Self.Record.from_gives p r → r ≡ model.plain p };
 
     // The constants are those of the kind's rules.

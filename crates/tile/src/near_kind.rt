@@ -20,6 +20,7 @@ impl From<NearestRecord> for Nearest {
     }
 }
 
+// The pixel as it lies in memory.
 impl From<Nearest> for NearestRecord {
     ghost from_gives = { λ p r. r ≡ nearest.plain p };
 
