@@ -1,9 +1,11 @@
 -- Coverage pixels. Assumes nothing.
 use Rattle.std.specs.Prelude.{◌≡◌, ℕ, zero, suc, ◌-◌, ◌^◌, ◌<◌, min, max, List, [], ◌∷◌, drop, slice_index, refl}
 use Rattle.std.proofs.Common.{sym, ap, ◌∙◌, arith}
-use Rattle.std.specs.Int.Bits.{bit_and, bit_or}
-use Rattle.std.proofs.lemmas.Nat.{and_le_l, and_le_r, or_lt}
-use Rattle.tile.specs.Bitwise.{bit, bit-bit_and, bit-bit_or, bit_not, same_bits}
+use Rattle.std.specs.Int.Bits.{bit_and, bit_or, and_self}
+use Rattle.std.proofs.lemmas.Nat.{and_assoc, and_le_l, and_le_r, or_lt}
+use Rattle.std.proofs.lemmas.Nat.Bits.{bit_at_and, bit_at_or, bit_at_not, same_from_bits_below}
+use Rattle.std.specs.Int.{bit_at}
+use mir.Syntax.{w32}
 use Rattle.tile.specs.Kinds.{Kind, reading}
 use Rattle.tile.specs.Named.{Inside}
 use Rattle.tile.specs.Words.{low}
@@ -28,10 +30,10 @@ four_inside f m h (suc (suc (suc (suc k)))) = refl
 pub inside-word : (m p : ℕ) → m < 2 ^ 32 → Inside m p → p < 2 ^ 32
 inside-word m p h e = omega (arith, and_le_r p m)
 
-pub over-bit : (k m f b : ℕ) → k < 32 → m < 2 ^ 32 → bit k (over m f b) ≡ max (bit k f) (min (bit k b) (1 - bit k m))
+pub over-bit : (k m f b : ℕ) → k < 32 → m < 2 ^ 32 → bit_at (over m f b) k ≡ max (bit_at f k) (min (bit_at b k) (1 - bit_at m k))
 over-bit k m f b l h =
-    bit-bit_or k f (bit_and b ((2 ^ 32 - 1) - m))
-    ∙ ap (max (bit k f)) (bit-bit_and k b ((2 ^ 32 - 1) - m) ∙ ap (min (bit k b)) (bit_not k 32 m l h))
+    bit_at_or f (bit_and b ((2 ^ 32 - 1) - m)) k
+    ∙ ap (max (bit_at f k)) (bit_at_and b ((2 ^ 32 - 1) - m) k ∙ ap (min (bit_at b k)) (bit_at_not w32 m k h l))
 
 pub over_word : (m f b : ℕ) → f < 2 ^ 32 → b < 2 ^ 32 → over m f b < 2 ^ 32
 over_word m f b hf hb = or_lt 32 f (bit_and b ((2 ^ 32 - 1) - m)) hf (omega (arith, and_le_l b ((2 ^ 32 - 1) - m)))
@@ -42,20 +44,17 @@ inside-digit m n f b hm hn hf hb ef eb = omega arith
 pub over-inside : (m n f b : ℕ) → m < 2 ^ 32 → n < 2 ^ 32 → Inside m f → Inside n b → Inside (bit_or m n) (over m f b)
 over-inside m n f b hm hn ef eb =
     let word : over m f b < 2 ^ 32 = over_word m f b (inside-word m f hm ef) (inside-word n b hn eb) in
-    same_bits 32 _ _ (omega (arith, and_le_l (over m f b) (bit_or m n))) word
+    same_from_bits_below 32 _ _ (omega (arith, and_le_l (over m f b) (bit_or m n))) word
     (λ k l.
     let o = over-bit k m f b l hm in
-    bit-bit_and k (over m f b) (bit_or m n)
-    ∙ (λ i. min (o i) (bit-bit_or k m n i))
-    ∙ inside-digit (bit k m) (bit k n) (bit k f) (bit k b) (omega arith) (omega arith) (omega arith) (omega arith)
-    (sym (bit-bit_and k f m) ∙ ap (bit k) ef) (sym (bit-bit_and k b n) ∙ ap (bit k) eb)
+    bit_at_and (over m f b) (bit_or m n) k
+    ∙ (λ i. min (o i) (bit_at_or m n k i))
+    ∙ inside-digit (bit_at m k) (bit_at n k) (bit_at f k) (bit_at b k) (omega arith) (omega arith) (omega arith) (omega arith)
+    (sym (bit_at_and f m k) ∙ ap (λ x. bit_at x k) ef) (sym (bit_at_and b n k) ∙ ap (λ x. bit_at x k) eb)
     ∙ sym o)
 
-pub and_inside : (m p : ℕ) → m < 2 ^ 32 → Inside m (bit_and p m)
-and_inside m p h =
-    let word : bit_and p m < 2 ^ 32 = omega (arith, and_le_r p m) in
-    same_bits 32 _ _ (omega (arith, and_le_l (bit_and p m) m)) word
-    (λ k l. bit-bit_and k (bit_and p m) m ∙ omega (arith, bit-bit_and k p m))
+pub and_inside : (m p : ℕ) → Inside m (bit_and p m)
+and_inside m p = and_assoc m p m ∙ ap (bit_and p) (and_self m)
 
 -- the pixel that a record stands for: bits outside the mask do not count
 abbrev pub meaning : CoverageRecord → Coverage
@@ -65,7 +64,7 @@ meaning r = record {
   lawful = (
     omega arith,
     refl,
-    four_inside (λ k. bit_and (slice_index r.planes k) (low r.mask)) (low r.mask) (λ k. and_inside (low r.mask) (slice_index r.planes k) (omega arith)),
+    four_inside (λ k. bit_and (slice_index r.planes k) (low r.mask)) (low r.mask) (λ k. and_inside (low r.mask) (slice_index r.planes k)),
   );
 }
 

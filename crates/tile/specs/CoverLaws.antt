@@ -1,5 +1,5 @@
 -- Coverage pixels are a kind. Assumes nothing.
-use Rattle.std.specs.Prelude.{◌≡◌, ℕ, zero, suc, ◌-◌, ◌^◌, ◌<◌, ◌≤◌, min, max, true, List, [], ◌∷◌, ◌++◌, length, drop, bit_and, slice_index, slice_set, refl}
+use Rattle.std.specs.Prelude.{◌≡◌, ℕ, zero, suc, ◌-◌, ◌^◌, ◌<◌, min, max, true, List, [], ◌∷◌, length, drop, bit_and, slice_index, refl}
 use Rattle.std.proofs.Common.{sym, ap, subst, ◌∙◌, mod-eq_of_lt, arith}
 use Rattle.std.proofs.lemmas.Bool.Decides.{nat_tests}
 use mathlib.Core.HLevel.{is_prop→PathP, Π_prop, ×₃_prop}
@@ -7,7 +7,8 @@ use Rattle.std.proofs.Math.Bridge.{le_prop}
 use Rattle.std.proofs.Math.Nat.{ℕ_set, zero-max}
 use Rattle.std.specs.Int.Bits.{bit_or, or_zero_r}
 use Rattle.std.proofs.lemmas.Nat.{and_mask, or_lt}
-use Rattle.tile.specs.Bitwise.{bit, bit-bit_or, same_bits}
+use Rattle.std.proofs.lemmas.Nat.Bits.{bit_at_or, same_from_bits, same_from_bits_below}
+use Rattle.std.specs.Int.{bit_at}
 use Rattle.tile.specs.Cover.{coverage, join, blank, meaning, words, of_words, four, over, over-bit, over_word, inside-word}
 use Rattle.tile.specs.Kinds.{KindLaws}
 use Rattle.tile.specs.ReadLaws.{reading-back, reading-only}
@@ -35,6 +36,10 @@ four_is (a ∷ b ∷ c ∷ d ∷ x ∷ ps) h = absurd (omega arith)
 
 pub same-four : (f g : ℕ → ℕ) → ((k : ℕ) → f k ≡ g k) → four f ≡ four g
 same-four f g e i = four (λ k. e k i)
+
+-- planes of which each is given
+pub four_made : (f : ℕ → ℕ) (ps : List ℕ) → length ps ≡ 4 → slice_index ps 0 ≡ f 0 → slice_index ps 1 ≡ f 1 → slice_index ps 2 ≡ f 2 → slice_index ps 3 ≡ f 3 → ps ≡ four f
+four_made f ps l a b c d = sym (four_is ps l) ∙ (λ i. a i ∷ b i ∷ c i ∷ d i ∷ [])
 
 module _ (p : Coverage) where
   pub plane-word : (k : ℕ) → slice_index p.planes k < 2 ^ 32
@@ -66,10 +71,8 @@ module _ (p : Coverage) where
   are_words zero = p.lawful.0
   are_words (suc k) = plane-word k
 
-or_assoc : (a b c : ℕ) → a < 2 ^ 32 → b < 2 ^ 32 → c < 2 ^ 32 → bit_or (bit_or a b) c ≡ bit_or a (bit_or b c)
-or_assoc a b c ha hb hc =
-    same_bits 32 _ _ (or_lt 32 (bit_or a b) c (or_lt 32 a b ha hb) hc) (or_lt 32 a (bit_or b c) ha (or_lt 32 b c hb hc))
-    (λ k l. omega (arith, bit-bit_or k (bit_or a b) c, bit-bit_or k a b, bit-bit_or k a (bit_or b c), bit-bit_or k b c))
+or_assoc : (a b c : ℕ) → bit_or (bit_or a b) c ≡ bit_or a (bit_or b c)
+or_assoc a b c = same_from_bits _ _ (λ k. omega (arith, bit_at_or (bit_or a b) c k, bit_at_or a b k, bit_at_or a (bit_or b c) k, bit_at_or b c k))
 
 -- one sample that the front does not cover, and one that it does
 past-front : (f b x : ℕ) → b < 2 → x < 2 → max (max f (min b 1)) x ≡ max f (min (max b x) 1)
@@ -88,22 +91,22 @@ over-digit (suc (suc m)) n f b c hm hn hb hc = absurd (omega arith)
 
 over-assoc : (m n f b c : ℕ) → m < 2 ^ 32 → n < 2 ^ 32 → f < 2 ^ 32 → b < 2 ^ 32 → c < 2 ^ 32 → over (bit_or m n) (over m f b) c ≡ over m f (over n b c)
 over-assoc m n f b c hm hn hf hb hc =
-    same_bits 32 _ _ (over_word (bit_or m n) (over m f b) c (over_word m f b hf hb) hc) (over_word m f (over n b c) hf (over_word n b c hb hc))
+    same_from_bits_below 32 _ _ (over_word (bit_or m n) (over m f b) c (over_word m f b hf hb) hc) (over_word m f (over n b c) hf (over_word n b c hb hc))
     (λ k l.
     over-bit k (bit_or m n) (over m f b) c l (or_lt 32 m n hm hn)
-    ∙ (λ i. max (over-bit k m f b l hm i) (min (bit k c) (1 - bit-bit_or k m n i)))
-    ∙ over-digit (bit k m) (bit k n) (bit k f) (bit k b) (bit k c) (omega arith) (omega arith) (omega arith) (omega arith)
-    ∙ sym (over-bit k m f (over n b c) l hm ∙ (λ i. max (bit k f) (min (over-bit k n b c l hn i) (1 - bit k m)))))
+    ∙ (λ i. max (over-bit k m f b l hm i) (min (bit_at c k) (1 - bit_at_or m n k i)))
+    ∙ over-digit (bit_at m k) (bit_at n k) (bit_at f k) (bit_at b k) (bit_at c k) (omega arith) (omega arith) (omega arith) (omega arith)
+    ∙ sym (over-bit k m f (over n b c) l hm ∙ (λ i. max (bit_at f k) (min (over-bit k n b c l hn i) (1 - bit_at m k)))))
 
 pub assoc : (p q s : Coverage) → join (join p q) s ≡ join p (join q s)
 assoc p q s =
-    same-coverage _ _ (or_assoc p.mask q.mask s.mask p.lawful.0 q.lawful.0 s.lawful.0)
+    same-coverage _ _ (or_assoc p.mask q.mask s.mask)
     (same-four
     (λ k. over (bit_or p.mask q.mask) (over p.mask (slice_index p.planes k) (slice_index q.planes k)) (slice_index s.planes k))
     (λ k. over p.mask (slice_index p.planes k) (over q.mask (slice_index q.planes k) (slice_index s.planes k)))
     (λ k. over-assoc p.mask q.mask _ _ _ p.lawful.0 q.lawful.0 (plane-word p k) (plane-word q k) (plane-word s k)))
 
-inside_all : (m a b c d : ℕ) → Inside m a → Inside m b → Inside m c → Inside m d → (k : ℕ) → Inside m (slice_index (a ∷ b ∷ c ∷ d ∷ []) k)
+pub inside_all : (m a b c d : ℕ) → Inside m a → Inside m b → Inside m c → Inside m d → (k : ℕ) → Inside m (slice_index (a ∷ b ∷ c ∷ d ∷ []) k)
 inside_all m a b c d ia ib ic id zero = ia
 inside_all m a b c d ia ib ic id (suc zero) = ib
 inside_all m a b c d ia ib ic id (suc (suc zero)) = ic
@@ -153,13 +156,3 @@ laws = record {
 pub five_words : (ws : List ℕ) → length ws ≡ 5 → slice_index ws 0 ∷ four (λ k. slice_index ws (suc k)) ≡ ws
 five_words [] h = absurd (omega arith)
 five_words (m ∷ ws) h = ap (λ ps. m ∷ ps) (four_is ws (omega arith))
-
-pub five_set : (ws : List ℕ) (m : ℕ) (ps : List ℕ) → 5 ≤ length ws → length ps ≡ 4 → slice_set (slice_set (slice_set (slice_set (slice_set ws 0 m) 1 (slice_index ps 0)) 2 (slice_index ps 1)) 3 (slice_index ps 2)) 4 (slice_index ps 3) ≡ m ∷ (ps ++ drop (suc (length ps)) ws)
-five_set [] m ps h l = absurd (omega arith)
-five_set (v ∷ []) m ps h l = absurd (omega arith)
-five_set (v ∷ w ∷ []) m ps h l = absurd (omega arith)
-five_set (v ∷ w ∷ x ∷ []) m ps h l = absurd (omega arith)
-five_set (v ∷ w ∷ x ∷ y ∷ []) m ps h l = absurd (omega arith)
-five_set (v ∷ w ∷ x ∷ y ∷ z ∷ ws) m ps h l =
-    ap (λ qs. m ∷ (qs ++ ws)) (four_is ps l)
-    ∙ ap (λ n. m ∷ (ps ++ drop (suc n) (v ∷ w ∷ x ∷ y ∷ z ∷ ws))) (sym l)

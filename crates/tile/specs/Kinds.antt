@@ -1,5 +1,6 @@
 -- What a kind of pixel is: pixels P, and records R as they lie in memory. Assumes nothing.
-use Rattle.std.specs.Prelude.{◌≡◌, ℕ, ◌≤◌, Bool, true, false, cond, ◌&&◌, List, [], ◌∷◌, length, replicate, Some, None, Option, ◌==◌}
+use Rattle.std.specs.Prelude.{◌≡◌, ℕ, ◌≤◌, cond, List, length, replicate, Some, None, Option, nat_eq}
+use Rattle.std.specs.Cmp.Lexicographic.{pointwise}
 use Rattle.tile.specs.Words.{AreWords}
 use Rattle.tile.specs.Named.{Named}
 
@@ -37,12 +38,6 @@ pub record KindLaws {P R : Type 0} (m : Kind P R) : Type 0 where
   -- with the number of a named kind, the words are those of that kind
   pub named : Named m.number m.width (λ ws. (p : P) × (m.words p ≡ ws))
 
-abbrev pub same_words : List ℕ → List ℕ → Bool
-same_words [] [] = true
-same_words [] (w ∷ ws) = false
-same_words (v ∷ vs) [] = false
-same_words (v ∷ vs) (w ∷ ws) = v == w && same_words vs ws
-
 -- the pixel made of the words, if it has these words
 abbrev pub reading : {P : Type 0} → (P → List ℕ) → (List ℕ → P) → List ℕ → Option P
-reading words of_words ws = cond (same_words (words (of_words ws)) ws) (Some (of_words ws)) None
+reading words of_words ws = cond (pointwise nat_eq (words (of_words ws)) ws) (Some (of_words ws)) None

@@ -1,5 +1,4 @@
 pub mod Answers
-pub mod Bitwise
 pub mod Cover
 pub mod Examples
 pub mod Faults

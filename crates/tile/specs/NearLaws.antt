@@ -1,5 +1,5 @@
 -- Nearest pixels are a kind. Assumes nothing.
-use Rattle.std.specs.Prelude.{◌≡◌, ℕ, zero, suc, ◌^◌, ◌<◌, true, List, [], ◌∷◌, length, ◌≢◌, nat_le, slice_index, refl}
+use Rattle.std.specs.Prelude.{◌≡◌, ℕ, zero, suc, ◌^◌, ◌<◌, true, List, [], ◌∷◌, length, nat_le, slice_index, refl}
 use Rattle.std.proofs.Common.{sym, ap, ap₂, subst, ◌∙◌, mod-eq_of_lt, arith}
 use mathlib.Core.HLevel.{is_prop→PathP, Π_prop, ×₃_prop}
 use Rattle.std.proofs.Math.Bridge.{le_prop}
@@ -27,13 +27,10 @@ pub lawful_colour : (n c : ℕ) → (n ≡ 0 → c ≡ 0) → colour_at n c ≡ 
 lawful_colour zero c h = sym (h refl)
 lawful_colour (suc n) c h = refl
 
-pub low-is : (n : ℕ) → n < 2 ^ 32 → low n ≡ n
-low-is n h = mod-eq_of_lt h
-
 pub meaning_plain : (p : Nearest) → meaning (nearest.plain p) ≡ p
 meaning_plain p =
-    let n = low-is p.nearness p.lawful.0 in
-    let c = low-is p.colour p.lawful.1 in
+    let n : low p.nearness ≡ p.nearness = mod-eq_of_lt p.lawful.0 in
+    let c : low p.colour ≡ p.colour = mod-eq_of_lt p.lawful.1 in
     same-nearest _ _ n (ap₂ colour_at n c ∙ lawful_colour p.nearness p.colour p.lawful.2)
 
 pub left : (p : Nearest) → join blank p ≡ p
@@ -86,10 +83,6 @@ laws = record {
   blank_alone = λ p e. same-nearest p blank (ap (λ ws. slice_index ws 0) e) (ap (λ ws. slice_index ws 1) e);
   named = λ _. named;
 }
-
-pub colour_when : (n c : ℕ) → (n ≢ 0) → colour_at n c ≡ c
-colour_when zero c h = absurd (h refl)
-colour_when (suc n) c h = refl
 
 pub two_words : (ws : List ℕ) → length ws ≡ 2 → slice_index ws 0 ∷ slice_index ws 1 ∷ [] ≡ ws
 two_words [] h = absurd (omega arith)

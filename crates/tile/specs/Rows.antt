@@ -1,6 +1,7 @@
 -- Rows of pixels. Assumes nothing.
 use Rattle.std.specs.Prelude.{◌≡◌, ℕ, zero, suc, Bool, true, false, List, [], ◌∷◌, map, length, take, drop, Some, None, Ok, Err, Option, Result, ◌≢◌}
 use Rattle.std.specs.List.{flat_map}
+use lib.Lanes.{zip2}
 use Rattle.tile.specs.declared.fault.Fault.{Fault}
 use Rattle.tile.specs.declared.fault.Ground.TheVariants.{TooShort, BadMessage}
 use Rattle.tile.specs.Faults.{unranked}
@@ -10,15 +11,9 @@ use Rattle.tile.specs.Kinds.{Kind}
 abbrev pub picture : {P R : Type 0} → Kind P R → List R → List P
 picture m rs = map m.meaning rs
 
--- pixel by pixel
-abbrev pub zipped : {P : Type 0} → (P → P → P) → List P → List P → List P
-zipped f [] qs = []
-zipped f (p ∷ ps) [] = []
-zipped f (p ∷ ps) (q ∷ qs) = f p q ∷ zipped f ps qs
-
 -- each pixel of the row is joined with that of the row behind; or the rows are not equally long
 abbrev pub JoinedRows : {P R : Type 0} → Kind P R → List R → List R → List R → Result (Unit {0}) Fault → Type 0
-JoinedRows m front back after (Ok _) = (length front ≡ length back) × (picture m after ≡ zipped m.join (picture m front) (picture m back))
+JoinedRows m front back after (Ok _) = (length front ≡ length back) × (picture m after ≡ zip2 m.join (picture m front) (picture m back))
 JoinedRows m front back after (Err f) = (length front ≢ length back) × (after ≡ front) × (f ≡ unranked TooShort)
 
 -- the words of a row's pixels, one after another
@@ -43,5 +38,5 @@ AreRow {P} m ws false = (ps : List P) → flat_map m.words ps ≢ ws
 
 -- the pixels are joined behind the row; or there are none, and the row is as it was
 abbrev pub JoinedBehind : {P R : Type 0} → Kind P R → List R → Option (List P) → List R → Result (Unit {0}) Fault → Type 0
-JoinedBehind m front (Some ps) after r = (r ≡ Ok tt) × (picture m after ≡ zipped m.join (picture m front) ps)
+JoinedBehind m front (Some ps) after r = (r ≡ Ok tt) × (picture m after ≡ zip2 m.join (picture m front) ps)
 JoinedBehind m front None after r = (r ≡ Err (unranked BadMessage)) × (after ≡ front)

@@ -1,10 +1,38 @@
 // Coverage pixels as a kind.
-ghost use Rattle.tile.specs.Cover.{coverage};
+ghost use Rattle.std.specs.Prelude.{◌≡◌, refl};
+ghost use Rattle.tile.specs.Cover.{coverage, meaning};
 ghost use Rattle.tile.specs.CoverLaws.{laws};
 
 use crate::cover::{Coverage, CoverageRecord};
 use crate::fault::{Fault, Ground, unranked};
 use crate::kind::Pixel;
+use std::array;
+
+// Bits outside the mask do not count.
+impl From<CoverageRecord> for Coverage {
+    ghost from_gives = { λ r p. p ≡ meaning r };
+
+    fn from(plain: CoverageRecord) -> Coverage {
+        let mask = plain.mask;
+        Coverage {
+            mask,
+            planes: plain.planes.map(|plane| plane & mask),
+        }
+    }
+}
+
+// The pixel as it lies in memory.
+impl From<Coverage> for CoverageRecord {
+    ghost from_gives = { λ p r. r ≡ coverage.plain p };
+
+    fn from(pixel: Coverage) -> CoverageRecord {
+        let planes = pixel.planes;
+        CoverageRecord {
+            mask: pixel.mask,
+            planes,
+        }
+    }
+}
 
 impl Pixel for Coverage {
     type Record = CoverageRecord;
@@ -13,81 +41,55 @@ impl Pixel for Coverage {
 
     const WORDS: usize = 5;
 
+    ghost KIND = { 2 };
+
+    ghost WORDS = { 5 };
+
     ghost model = { coverage };
 
+    ghost means = { λ r p e. e };
+
+    ghost lies_as = { λ p r e. e };
+
+    ghost same_number = { refl };
+
+    ghost same_width = { refl };
+
     ghost lawful = { laws };
-
-    fn number() -> u8 {
-        Self::KIND
-    }
-
-    fn width() -> usize {
-        Self::WORDS
-    }
 
     fn blank() -> Coverage {
         Coverage {
             mask: 0,
-            planes: [0, 0, 0, 0],
+            planes: [0; 4],
         }
     }
 
     fn join(self, back: Coverage) -> Coverage {
-        let [a, b, c, d] = self.planes;
-        let [e, f, g, h] = back.planes;
         let outside = !self.mask;
         Coverage {
             mask: self.mask | back.mask,
-            planes: [
-                a | (e & outside),
-                b | (f & outside),
-                c | (g & outside),
-                d | (h & outside),
-            ],
-        }
-    }
-
-    fn from_record(plain: CoverageRecord) -> Coverage {
-        let mask = plain.mask;
-        let [a, b, c, d] = plain.planes;
-        Coverage {
-            mask,
-            planes: [a & mask, b & mask, c & mask, d & mask],
-        }
-    }
-
-    fn to_record(self) -> CoverageRecord {
-        let planes = self.planes;
-        CoverageRecord {
-            mask: self.mask,
-            planes,
+            planes: array::from_fn(|k| self.planes[k] | (back.planes[k] & outside)),
         }
     }
 
     fn write(self, out: &mut [u32]) -> Result<(), Fault> {
-        if out.len() < 5 {
+        if out.len() < Self::WORDS {
             return Err(unranked(Ground::TooShort));
         }
-        let [a, b, c, d] = self.planes;
         out[0] = self.mask;
-        out[1] = a;
-        out[2] = b;
-        out[3] = c;
-        out[4] = d;
+        out[1..Self::WORDS].copy_from_slice(&self.planes);
         Ok(())
     }
 
     fn read(words: &[u32]) -> Option<Coverage> {
-        let [mask, a, b, c, d] = words else {
+        let &[mask, a, b, c, d] = words else {
             return None;
         };
-        let (mask, a, b, c, d) = (*mask, *a, *b, *c, *d);
-        if a & mask != a || b & mask != b || c & mask != c || d & mask != d {
-            return None;
+        let planes = [a, b, c, d];
+        if planes.iter().all(|plane| *plane & mask == *plane) {
+            Some(Coverage { mask, planes })
+        } else {
+            None
         }
-        Some(Coverage {
-            mask,
-            planes: [a, b, c, d],
-        })
     }
 }

@@ -3,10 +3,11 @@ ghost use Rattle.std.specs.Prelude.{◌≡◌};
 ghost use Rattle.tile.specs.Faults.{number_of, ground_of, fault_number, fault_part, fault_rank, fault_place, at_rank, unranked};
 
 // The rank of a fault that concerns none.
+// Stays: a refusal is told as four numbers, and a caller may bring this one himself, so an Option beside it is no plainer.
 pub const NO_RANK: u32 = 4_294_967_295;
 
 // The ground of a refusal, in the order in which grounds are tried.
-#[derive(Clone, Copy, Debug)]
+#[derive(Clone, Copy, Debug, PartialEq, Eq)]
 pub enum Ground {
     UnknownRecord = 1,
     CutShort = 2,
@@ -31,7 +32,8 @@ pub enum Ground {
 }
 
 // A refusal: its ground, and what it concerns.
-#[derive(Clone, Copy, Debug)]
+// Stays: a struct of the ground and an enum of the rest makes two values to build and match for each refusal, so it is no plainer.
+#[derive(Clone, Copy, Debug, PartialEq, Eq)]
 pub enum Fault {
     // The dump reader refuses the record at `place`.
     Dump {
@@ -84,6 +86,7 @@ impl Fault {
         self.ground().number()
     }
 
+    // Stays: the variants are the enum of the parts, and this is the number that documents and logs give each.
     // The part that refuses: 1 the dump reader, 2 any other call, 3 a plan maker, 4 a link.
     pub fn part(self) -> u8
         ensures { result ≡ fault_part self }

@@ -1,29 +1,25 @@
 // What a kind of pixel is.
-ghost use Rattle.std.specs.Prelude.{◌≡◌};
+ghost use Rattle.std.specs.Prelude.{◌≡◌, ℕ};
 ghost use Rattle.tile.specs.Kinds.{Kind, KindLaws};
 ghost use Rattle.tile.specs.Words.{Written};
 
 use crate::fault::Fault;
 
-pub trait Pixel: Copy {
+pub trait Pixel: Copy + From<Self::Record> {
     // A pixel as it lies in memory: every record stands for one pixel.
-    type Record: Copy;
-
-    // The kind's number. Generic code takes it from `number`.
-    const KIND: u8;
-
-    // How many words a pixel has. Generic code takes it from `width`.
-    const WORDS: usize;
-
-    ghost model: { Kind Self Self.Record };
+    type Record: Copy + From<Self>;
 
     // The kind's number.
-    fn number() -> u8
-        ensures { result ≡ model.number };
+    const KIND: u8;
 
     // How many words a pixel has.
-    fn width() -> usize
-        ensures { result ≡ model.width };
+    const WORDS: usize;
+
+    ghost KIND: { ℕ };
+
+    ghost WORDS: { ℕ };
+
+    ghost model: { Kind Self Self.Record };
 
     // The pixel that covers nothing.
     fn blank() -> Self
@@ -33,21 +29,53 @@ pub trait Pixel: Copy {
     fn join(self, back: Self) -> Self
         ensures { result ≡ model.join self back };
 
-    // The pixel that a record stands for.
-    fn from_record(plain: Self::Record) -> Self
-        ensures { result ≡ model.meaning plain };
-
-    // A record that stands for the pixel.
-    fn to_record(self) -> Self::Record
-        ensures { result ≡ model.plain self };
-
     // Puts the pixel's words first in `out`; refused where `out` is too short.
     fn write(self, out: &mut [u32]) -> Result<(), Fault>
         ensures { Written (model.words self) out.old out.new result };
 
     // The pixel whose words these are, if one has these words.
+    // Stays: TryFrom<&[u32]> as a supertrait needs a bound under for<'a>, which gets no proof.
     fn read(words: &[u32]) -> Option<Self>
         ensures { result ≡ model.reads words.now };
+
+    // The kind's number, as its rules have it.
+    final fn number() -> u8
+        ensures { result ≡ model.number }
+    {
+        Self::KIND
+    }
+
+    // How many words a pixel has, as the kind's rules have it.
+    final fn width() -> usize
+        ensures { result ≡ model.width }
+    {
+        Self::WORDS
+    }
+
+    // The pixel that a record stands for.
+    final fn from_record(plain: Self::Record) -> Self
+        ensures { result ≡ model.meaning plain }
+    {
+        Self::from(plain)
+    }
+
+    // A record that stands for the pixel.
+    final fn to_record(self) -> Self::Record
+        ensures { result ≡ model.plain self }
+    {
+        Self::Record::from(self)
+    }
+
+    // A record becomes the pixel that it stands for.
+    ghost means: { (r : Self.Record) (p : Self) → Self.from_gives r p → p ≡ model.meaning r };
+
+    // A pixel becomes a record that stands for it.
+    ghost lies_as: { (p : Self) (r : Self.Record) → Self.Record.from_gives p r → r ≡ model.plain p };
+
+    // The constants are those of the kind's rules.
+    ghost same_number: { KIND ≡ model.number };
+
+    ghost same_width: { WORDS ≡ model.width };
 
     ghost lawful: { KindLaws model };
 }

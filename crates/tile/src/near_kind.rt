@@ -1,10 +1,36 @@
 // Nearest pixels as a kind.
-ghost use Rattle.tile.specs.Near.{nearest};
+ghost use Rattle.std.specs.Prelude.{◌≡◌, refl};
+ghost use Rattle.tile.specs.Near.{nearest, meaning};
 ghost use Rattle.tile.specs.NearLaws.{laws};
 
 use crate::fault::{Fault, Ground, unranked};
 use crate::kind::Pixel;
 use crate::near::{Nearest, NearestRecord};
+
+// With nearness 0 the colour does not count.
+impl From<NearestRecord> for Nearest {
+    ghost from_gives = { λ r p. p ≡ meaning r };
+
+    fn from(plain: NearestRecord) -> Nearest {
+        let NearestRecord { nearness, colour } = plain;
+        Nearest {
+            nearness,
+            colour: if nearness == 0 { 0 } else { colour },
+        }
+    }
+}
+
+// The pixel as it lies in memory.
+impl From<Nearest> for NearestRecord {
+    ghost from_gives = { λ p r. r ≡ nearest.plain p };
+
+    fn from(pixel: Nearest) -> NearestRecord {
+        NearestRecord {
+            nearness: pixel.nearness,
+            colour: pixel.colour,
+        }
+    }
+}
 
 impl Pixel for Nearest {
     type Record = NearestRecord;
@@ -13,17 +39,21 @@ impl Pixel for Nearest {
 
     const WORDS: usize = 2;
 
+    ghost KIND = { 1 };
+
+    ghost WORDS = { 2 };
+
     ghost model = { nearest };
 
+    ghost means = { λ r p e. e };
+
+    ghost lies_as = { λ p r e. e };
+
+    ghost same_number = { refl };
+
+    ghost same_width = { refl };
+
     ghost lawful = { laws };
-
-    fn number() -> u8 {
-        Self::KIND
-    }
-
-    fn width() -> usize {
-        Self::WORDS
-    }
 
     fn blank() -> Nearest {
         Nearest {
@@ -40,23 +70,8 @@ impl Pixel for Nearest {
         }
     }
 
-    fn from_record(plain: NearestRecord) -> Nearest {
-        let colour = if plain.nearness == 0 { 0 } else { plain.colour };
-        Nearest {
-            nearness: plain.nearness,
-            colour,
-        }
-    }
-
-    fn to_record(self) -> NearestRecord {
-        NearestRecord {
-            nearness: self.nearness,
-            colour: self.colour,
-        }
-    }
-
     fn write(self, out: &mut [u32]) -> Result<(), Fault> {
-        if out.len() < 2 {
+        if out.len() < Self::WORDS {
             return Err(unranked(Ground::TooShort));
         }
         out[0] = self.nearness;
@@ -65,15 +80,12 @@ impl Pixel for Nearest {
     }
 
     fn read(words: &[u32]) -> Option<Nearest> {
-        let [nearness, colour] = words else {
+        let &[nearness, colour] = words else {
             return None;
         };
-        if *nearness == 0 && *colour != 0 {
+        if nearness == 0 && colour != 0 {
             return None;
         }
-        Some(Nearest {
-            nearness: *nearness,
-            colour: *colour,
-        })
+        Some(Nearest { nearness, colour })
     }
 }

@@ -14,9 +14,9 @@ pub fn write_row<P: Pixel>(row: &[P::Record], out: &mut [u32]) -> Result<(), Fau
     if out.len() / width < row.len() {
         return Err(unranked(Ground::TooShort));
     }
-    for i in 0..row.len() {
-        let at = i * width;
-        P::from_record(row[i]).write(&mut out[at..])?;
+    // Stays: the place in `out` is counted, since after a walk by `chunks_exact_mut` a proof knows its length alone.
+    for (i, record) in row.iter().enumerate() {
+        P::from_record(*record).write(&mut out[i * width..])?;
     }
     Ok(())
 }
@@ -26,16 +26,10 @@ fn lawful_words<P: Pixel>(words: &[u32]) -> bool
     ensures { AreRow P.Pixel.model words.now result }
 {
     let width = P::width();
-    if words.len() % width != 0 {
-        return false;
-    }
-    for i in 0..words.len() / width {
-        let at = i * width;
-        let Some(_) = P::read(&words[at..at + width]) else {
-            return false;
-        };
-    }
-    true
+    words.len() % width == 0
+        && words
+            .chunks_exact(width)
+            .all(|pixel| P::read(pixel).is_some())
 }
 
 // Whether the words are those of so many pixels.
@@ -52,9 +46,10 @@ pub fn join_rows<P: Pixel>(front: &mut [P::Record], back: &[P::Record]) -> Resul
     if front.len() != back.len() {
         return Err(unranked(Ground::TooShort));
     }
-    for i in 0..front.len() {
+    // Stays: `front` is written by index, since after a `zip` of its `iter_mut` a proof knows its length alone.
+    for (i, record) in back.iter().enumerate() {
         let over = P::from_record(front[i]);
-        let under = P::from_record(back[i]);
+        let under = P::from_record(*record);
         front[i] = over.join(under).to_record();
     }
     Ok(())
@@ -67,11 +62,11 @@ pub fn join_words<P: Pixel>(front: &mut [P::Record], words: &[u32]) -> Result<()
     if !is_row::<P>(words, front.len()) {
         return Err(unranked(Ground::BadMessage));
     }
-    let width = P::width();
-    for i in 0..front.len() {
-        let at = i * width;
-        if let Some(under) = P::read(&words[at..at + width]) {
-            front[i] = P::from_record(front[i]).join(under).to_record();
+    // Stays: `front` is written by index, since after a `zip` of its `iter_mut` a proof knows its length alone.
+    for (i, pixel) in words.chunks_exact(P::width()).enumerate() {
+        if let Some(under) = P::read(pixel) {
+            let over = &mut front[i];
+            *over = P::from_record(*over).join(under).to_record();
         }
     }
     Ok(())

@@ -46,6 +46,7 @@ fn unlawful_words_are_refused(rt: HostRuntime) -> Result<(), Fail> {
     let Err(fault) = join_words::<Nearest>(&mut front, &[0, 7]) else {
         return Err(Fail::new("unlawful words were joined"));
     };
+    assert_eq!(rt; fault.ground(), Ground::BadMessage);
     assert_eq!(rt; fault.number(), 20);
     assert_eq!(rt; front[0].nearness, 1);
     Ok(())

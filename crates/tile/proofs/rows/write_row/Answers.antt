@@ -1,7 +1,7 @@
 use Rattle.std.proofs.Common.{◌≡◌, ◌+◌, ◌*◌, ◌<◌, ◌≤◌, ◌++◌, length, take, drop, sym, refl, ap, ◌∙◌, ap₂, add-mul, arith, rules}
 use Rattle.std.proofs.lemmas.List.{length-take-le, take_all}
 use Rattle.tile.specs.Rows.{row_words}
-use Rattle.tile.proofs.RowLaws.{part-fits, too_short, all_fit, length-words, words_more, written-more, part_length}
+use Rattle.tile.proofs.RowLaws.{too_short, all_fit, length-words, words_more, written-more}
 use Rattle.tile.proofs.rows.write_row.Goals as goal
 
 pub returns-then-out-width : goal.returns-then-out-width
@@ -13,35 +13,6 @@ returns-then-out-width g c =
     let short = too_short (length c.args.row.now) w (length c.args.out.now) c.if-out-width.true some in
     let all = length-words m laws c.args.row.now ∙ ap (λ n. length c.args.row.now * n) (sym c.width-width.ensures) in
     (omega arith, refl, c.unranked.ensures)
-
-pub overflow_mul-at : goal.overflow_mul-at
-overflow_mul-at g c =
-    let part = part-fits c.loop-i.i (length c.args.row.now) c.width-width.result (length c.args.out.now) c.loop-i-test.true c.if-out-width.false in
-    omega arith
-
-pub offset_bounds-out-at : goal.offset_bounds-out-at
-offset_bounds-out-at g c =
-    let part = part-fits c.loop-i.i (length c.args.row.now) c.width-width.result (length c.args.out.now) c.loop-i-test.true c.if-out-width.false in
-    omega arith
-
-pub slice_bounds-write-count : goal.slice_bounds-write-count
-slice_bounds-write-count g c =
-    let part = part-fits c.loop-i.i (length c.args.row.now) c.width-width.result (length c.args.out.now) c.loop-i-test.true c.if-out-width.false in
-    omega arith
-
-pub slice_bounds-write-start : goal.slice_bounds-write-start
-slice_bounds-write-start g c =
-    let part = part-fits c.loop-i.i (length c.args.row.now) c.width-width.result (length c.args.out.now) c.loop-i-test.true c.if-out-width.false in
-    search rules
-
-pub returns-in_err-write : goal.returns-in_err-write
-returns-in_err-write g c =
-    let laws = g.met.P.Pixel.lawful in
-    let at = c.loop-i.i * c.width-width.result in
-    let part = part-fits c.loop-i.i (length c.args.row.now) c.width-width.result (length c.args.out.now) c.loop-i-test.true c.if-out-width.false in
-    let short = c.in_err-write.ensures.0 in
-    let none : ⊥ = omega (arith, part_length c.loop-i.out at, laws.words_length c.from_record.result) in
-    absurd none
 
 pub loop-i-preserved : goal.loop-i-preserved
 loop-i-preserved g c =
