@@ -22,7 +22,7 @@ pub factor_pos : (ks : List ℕ) → Each ks → (t : ℕ) → 0 < factor ks t
 factor_pos ks e t = ⊎_elim (λ (h : t < length ks). let b = e t h in omega arith) (λ (h : length ks ≤ t). let b = past ks t h in omega arith) (order t (length ks))
 
 -- the first factor taken out of a width
-ahead : (k : ℕ) (ks : List ℕ) (t : ℕ) → width (factor (k ∷ ks)) (suc t) ≡ k * width (factor ks) t
+pub ahead : (k : ℕ) (ks : List ℕ) (t : ℕ) → width (factor (k ∷ ks)) (suc t) ≡ k * width (factor ks) t
 ahead k ks zero = one-mul k ∙ sym (mul-one k)
 ahead k ks (suc t) = ap (λ w. w * factor ks t) (ahead k ks t) ∙ mul_assoc k (width (factor ks) t) (factor ks t)
 

@@ -123,7 +123,7 @@ all_in_one R w pos fits under r h =
       ],
     )
 
-top_le : (n R : ℕ) → 1 ≤ R → 2 ^ top n R ≤ R
+pub top_le : (n R : ℕ) → 1 ≤ R → 2 ^ top n R ≤ R
 top_le zero R h = h
 top_le (suc n) R h =
     ⊎_elim (λ (k : R < 2 ^ suc n). rw (lt-leb (2 ^ suc n) R k) (top_le n R h)) (λ (k : 2 ^ suc n ≤ R). rw (le-leb (2 ^ suc n) R k) k) (order R (2 ^ suc n))
@@ -136,7 +136,7 @@ top-few (suc n) R =
     (λ (k : 2 ^ suc n ≤ R). rw (le-leb (2 ^ suc n) R k) (omega arith))
     (order R (2 ^ suc n))
 
-top_lt : (n R : ℕ) → R < 2 ^ suc n → R < 2 ^ suc (top n R)
+pub top_lt : (n R : ℕ) → R < 2 ^ suc n → R < 2 ^ suc (top n R)
 top_lt zero R h = h
 top_lt (suc n) R h =
     ⊎_elim (λ (k : R < 2 ^ suc n). rw (lt-leb (2 ^ suc n) R k) (top_lt n R k)) (λ (k : 2 ^ suc n ≤ R). rw (le-leb (2 ^ suc n) R k) h) (order R (2 ^ suc n))

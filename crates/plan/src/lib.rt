@@ -1,9 +1,9 @@
 // Plans: who merges what with whom, round by round.
 #![tactic(auto)]
 
+mod counts;
 pub mod examples;
-mod limits;
-mod parts;
+mod factors;
 pub mod pieces;
 pub mod plan;
 pub mod radix;

@@ -1,4 +1,4 @@
-use Rattle.std.proofs.Common.{ap, arith}
+use Rattle.std.proofs.Common.{◌+◌, ap, arith}
 use native.Mathlib.Nat.{min-le_right}
 use Rattle.plan.specs.Answers.{round_of}
 use Rattle.plan.specs.Makers.{swap_of}
@@ -20,7 +20,8 @@ part-requires c =
     let told = told_ok m c.args.rank (m.group t c.args.rank) _ c.in_ok-group.ensures in
     let inside = m.member t c.args.rank (min-le_right _ _) told.0 in
     let fits = m.group_within t c.args.rank (min-le_right _ _) told.0 in
-    let ok = c.args.self.now.limits in
+    let ok = c.args.self.now.counts.limits in
     let start = ap (λ x. x.start) told.1 in
     let len = ap (λ x. x.len) told.1 in
+    let tile = ap (λ x. x.start + x.len) c.tile.ensures in
     (omega arith, omega arith, omega arith)
