@@ -5,9 +5,10 @@ use Rattle.std.proofs.ByRecursion.{All-append, All-weaker}
 use Rattle.std.proofs.lemmas.List.{append_assoc, length-append}
 use Rattle.std.specs.List.{AllByRecursion}
 use Rattle.plan.specs.Shares.{order}
+use Rattle.plan.specs.declared.listing.Listing.{Listing}
 use Rattle.plan.specs.declared.transfer.Transfer.{Transfer}
 use Rattle.plan.specs.Model.{PlanModel}
-use Rattle.plan.specs.Order.{up_to, between, to_place, from, in_round, all_rounds, Put, Wrote}
+use Rattle.plan.specs.Order.{up_to, between, to_place, from, in_round, all_rounds, Put, Adds, Wrote}
 use Rattle.plan.specs.Transfers.{transfer_of, IsTransfer, Once, Lists}
 use Rattle.plan.proofs.Putting.{between_is}
 
@@ -150,10 +151,11 @@ least m xs l =
     let kept : (x : Transfer) → Among x (all_rounds m) → IsTransfer m x = λ x i. all_among (IsTransfer m) (all_rounds m) x (sound m) i in
     no_longer (all_rounds m) xs (distinct (all_rounds m) (λ x i. complete m x (kept x i))) (λ x i. once_among x xs (l.complete x (kept x i)))
 
--- written from the first place on
-pub wrote : (m : PlanModel) (old new : List Transfer) (n : ℕ) → Put (all_rounds m) 0 old new n → Wrote m old new n
-wrote m old new n p =
-    let count : n ≡ length (all_rounds m) = let next = p.next in omega arith in
+-- all rounds are listed, from the first place on; what is then in the area is `now`
+pub wrote : (m : PlanModel) (n : ℕ) (first last : Listing) (now : List Transfer) → n ≡ m.rounds → first.count ≡ 0 → now ≡ last.area.now → Adds (up_to (in_round m) n) first last → Wrote m first.area.now now last.count
+wrote m n first last now all none e a =
+    let p : Put (all_rounds m) 0 first.area.now now last.count = rw (e, ← none) (subst (λ k. Put (up_to (in_round m) k) first.count first.area.now last.area.now last.count) all a.put) in
+    let count : last.count ≡ length (all_rounds m) = let next = p.next in omega arith in
     record {
       count = count;
       least = λ xs l. let le = least m xs l in omega arith;

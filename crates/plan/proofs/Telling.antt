@@ -3,7 +3,7 @@ use Rattle.std.proofs.Common.{◌≡◌, ℕ, suc, ◌<◌, ◌≤◌, ltb, Ok, 
 use Rattle.std.proofs.lemmas.Bool.{cases_lt, cond-true, cond-false, lt-ltb, le-ltb}
 use Rattle.tile.specs.declared.fault.Fault.{Fault}
 use Rattle.plan.specs.declared.runs.Run.{Run}
-use Rattle.plan.specs.Answers.{asked, told, outside, round_of, span_told, piece_told}
+use Rattle.plan.specs.Answers.{asked, told, outside, round_of, group_told, span_told, piece_told}
 use Rattle.plan.specs.Model.{PlanModel, piece}
 use Rattle.plan.specs.Runs.{common}
 
@@ -35,6 +35,10 @@ module _ (p : PlanModel) where
       ∙ asked_in p r (Ok (common (p.span (round_of p t) f) (p.span (round_of p (suc t)) r))) hr
       ∙ ap₂ (λ u v. Ok (common (p.span u f) (p.span v r))) (reached t (omega arith)) (reached (suc t) (omega arith))
 
-  -- the span that was told in a round that the plan has
+  -- the group that was told in a round that the plan has
+  pub group_is : (t r : ℕ) (s : Run) → t ≤ p.rounds → Ok s ≡ group_told p t r → (r < p.ranks) × (s ≡ p.group t r)
+  group_is t r s ht e = let k = told_ok p r (p.group (round_of p t) r) s e in (k.0, k.1 ∙ ap (λ u. p.group u r) (reached t ht))
+
+  -- the span in a round that the plan has
   pub span_is : (t r : ℕ) (s : Run) → t ≤ p.rounds → Ok s ≡ span_told p t r → (r < p.ranks) × (s ≡ p.span t r)
   span_is t r s ht e = let k = told_ok p r (p.span (round_of p t) r) s e in (k.0, k.1 ∙ ap (λ u. p.span u r) (reached t ht))
