@@ -4,7 +4,7 @@ use borrow.Author.Tests.{eqb-false}
 use Rattle.std.proofs.ByRecursion.{All-append, All-weaker}
 use Rattle.std.proofs.lemmas.List.{append_assoc, length-append}
 use Rattle.std.specs.List.{AllByRecursion}
-use Rattle.plan.specs.Shares.{order}
+use Rattle.std.proofs.lemmas.Bool.{cases_lt}
 use Rattle.plan.specs.declared.listing.Listing.{Listing}
 use Rattle.plan.specs.declared.transfer.Transfer.{Transfer}
 use Rattle.plan.specs.Model.{PlanModel}
@@ -38,7 +38,7 @@ module _ (key : Transfer → ℕ) (g : ℕ → List Transfer) (x : Transfer) whe
       let b = at.1 in
       let none = up_to-all (λ y. y ≡ x → ⊥) g n (λ j k. apart j (keys j (omega arith)) (λ e. omega arith)) in
       (up_to g n ++ a, b, ap (λ ys. up_to g n ++ ys) at.2 ∙ sym (append_assoc (up_to g n) a (x ∷ b)), subst (AllByRecursion (λ y. y ≡ x → ⊥)) (sym (append_assoc (up_to g n) a b)) (All-append (λ y. y ≡ x → ⊥) (up_to g n) (a ++ b) none at.3)))
-      (order (key x) n)
+      (cases_lt (key x) n)
 
 module _ (m : PlanModel) where
   module _ (P : Transfer → Type 0) (t f r : ℕ) (h : (f ≡ r → ⊥) → ((transfer_of m t f r).piece.len ≡ 0 → ⊥) → P (transfer_of m t f r)) where

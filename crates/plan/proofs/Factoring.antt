@@ -14,7 +14,7 @@ use Rattle.std.specs.Borrow.{Bor}
 use Rattle.std.proofs.Common.{Iter}
 use Rattle.plan.specs.Factors.{product, factor, width, Each, Suits}
 use Rattle.plan.specs.RadixRules.{ahead, factor_pos, whole}
-use Rattle.plan.specs.Shares.{order}
+use Rattle.std.proofs.lemmas.Bool.{cases_lt}
 
 pub in_range : (ks : List ℕ) (t : ℕ) → t < length ks → get_or ks t 0 ≡ factor ks t
 in_range [] t h = absurd (omega arith)
@@ -35,7 +35,7 @@ multiplied seen =
     sym (fold-map (λ a x. a * x) (λ (x : Bor ℕ). x.now) 1 seen) ∙ fold-product 1 seen' ∙ one-mul (product seen')
 
 front-le : (a b : ℕ) → 0 < a * b → a ≤ a * b
-front-le a b h = ⊎_elim (λ (p : 0 < b). le-mul_of_pos_right a p) (λ (z : b ≤ 0). let e : b ≡ 0 = omega arith in let n : a * b ≡ 0 = ap (λ x. a * x) e ∙ mul-zero a in absurd (omega arith)) (order 0 b)
+front-le a b h = ⊎_elim (λ (p : 0 < b). le-mul_of_pos_right a p) (λ (z : b ≤ 0). let e : b ≡ 0 = omega arith in let n : a * b ≡ 0 = ap (λ x. a * x) e ∙ mul-zero a in absurd (omega arith)) (cases_lt 0 b)
 
 -- what `product` asks of a slice
 pub product_fits : (xs : List ℕ) (s : Iter ℕ) (top : ℕ) → s.rest.now ≡ xs → 0 < product xs → product xs < top → EachRunFrom fronts s (λ p. fold (λ a (x : Bor ℕ). a * x.now) 1 p.items < top)

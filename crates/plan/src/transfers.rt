@@ -1,5 +1,6 @@
 // The transfer list of a plan.
-ghost use Rattle.std.specs.Prelude.{◌≡◌, ◌+◌, ◌<◌, ◌≤◌, [], ◌∷◌, MatchOption, MatchResult};
+ghost use Rattle.std.specs.Prelude.{◌≡◌, ◌+◌, ◌<◌, ◌≤◌, MatchResult};
+ghost use Rattle.std.specs.Option.{option_to_list};
 ghost use Rattle.plan.specs.Order.{between, from, in_round, Adds, Wrote};
 ghost use Rattle.plan.specs.Transfers.{Listed};
 
@@ -13,7 +14,7 @@ use tile::fault::{Fault, Ground, unranked};
 impl<'a, P: Plan> Step<'a, P> {
     // What `sender` sends to `receiver`, if anything.
     fn transfer(&self, sender: u32, receiver: u32) -> Result<Option<Transfer>, Fault>
-        ensures { MatchResult result (λ o. MatchOption o (between (P.model self.now.plan.now) self.now.round sender receiver ≡ []) (λ x. between (P.model self.now.plan.now) self.now.round sender receiver ≡ x ∷ [])) (λ _. (sender < (P.model self.now.plan.now).ranks) × (receiver < (P.model self.now.plan.now).ranks) → ⊥) }
+        ensures { let m = P.model self.now.plan.now in MatchResult result (λ o. option_to_list o ≡ between m self.now.round sender receiver) (λ _. (sender < m.ranks) × (receiver < m.ranks) → ⊥) }
     {
         let piece = piece(self.plan, self.round, sender, receiver)?;
         if sender == receiver || piece.len == 0 {
@@ -30,7 +31,7 @@ impl<'a, P: Plan> Step<'a, P> {
     // Lists all that `sender` sends.
     fn list_from(&self, sender: u32, listing: &mut Listing<'_>) -> Result<(), Fault>
         requires { listing.old.count + 32 ≤ 32768 }
-        ensures { MatchResult result (λ _. Adds (from (P.model self.now.plan.now) self.now.round sender) listing.old listing.new) (λ _. (P.model self.now.plan.now).ranks ≤ sender) }
+        ensures { let m = P.model self.now.plan.now in MatchResult result (λ _. Adds (from m self.now.round sender) listing.old listing.new) (λ _. m.ranks ≤ sender) }
     {
         let group = self.plan.group(self.round + 1, sender)?;
         for receiver in group.start..group.start + group.len {

@@ -1,5 +1,4 @@
-use Rattle.std.proofs.Common.{◌≡◌, suc, ◌+◌, ◌-◌, Option, MatchOption, [], ◌∷◌, sym, ap, ◌∙◌, subst, add-one, arith}
-use Rattle.plan.specs.declared.transfer.Transfer.{Transfer}
+use Rattle.std.proofs.Common.{◌≡◌, suc, ◌+◌, ◌-◌, sym, ap, ◌∙◌, subst, add-one, arith}
 use Rattle.plan.specs.Order.{between, to_place, Adds}
 use Rattle.plan.proofs.Putting.{adds_none, adds_turn, up_to-short, between-short}
 use Rattle.plan.proofs.Telling.{group_is}
@@ -34,13 +33,10 @@ loop-receiver-preserved g c =
     let first = (m.group (suc t) f).start in
     let one : Adds (between m t f r) c.loop-receiver.listing c.match-branch-3.listing =
     elim c.match-branch-3.branch [
-      | in-Some w ↦
-          let is : between m t f r ≡ w.in-Some.transfer ∷ [] = (let P : Option Transfer → Type 0 = λ o. MatchOption o (between m t f r ≡ []) (λ x. between m t f r ≡ x ∷ []) in subst P w.in-Some.is c.in_ok-transfer.ensures) in
-          rw (is, w.listing-is) w.put.ensures
-      | in_default w ↦
-          let is : between m t f r ≡ [] = (let P : Option Transfer → Type 0 = λ o. MatchOption o (between m t f r ≡ []) (λ x. between m t f r ≡ x ∷ []) in subst P w.in_default.is c.in_ok-transfer.ensures) in
-          rw (is, w.listing-is) (adds_none c.loop-receiver.listing)
-    ] in
+      | in-Some w ↦ rw (sym c.in_ok-transfer.ensures, w.in-Some.is, w.listing-is) w.put.ensures
+      | in_default w ↦ rw (sym c.in_ok-transfer.ensures, w.in_default.is, w.listing-is) (adds_none c.loop-receiver.listing)
+    ]
+    in
     let at : first + (r - first) ≡ r = omega arith in
     let next : r + 1 - first ≡ r - first + 1 = omega arith in
     rw next (adds_turn (to_place m t f) (r - first) c.args.listing.now c.loop-receiver.listing c.match-branch-3.listing c.loop-receiver.invariant (subst (λ n. Adds (between m t f n) c.loop-receiver.listing c.match-branch-3.listing) (sym at) one))

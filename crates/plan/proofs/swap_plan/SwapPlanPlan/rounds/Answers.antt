@@ -1,7 +1,7 @@
 use Rattle.std.proofs.Common.{◌^◌, ◌<◌, ◌≤◌, suc, arith, ⊎_elim, pow_mono, pow-suc}
 use Rattle.plan.specs.Swap.{top}
 use Rattle.plan.specs.SwapRules.{top_le, top_lt}
-use Rattle.plan.specs.Shares.{order}
+use Rattle.std.proofs.lemmas.Bool.{cases_lt}
 use Rattle.plan.proofs.swap_plan.SwapPlanPlan.rounds.Goals as goal
 
 pub returns : goal.returns
@@ -16,5 +16,5 @@ returns c =
     let after = pow-suc 2 u in
     ⊎_elim
     (λ (h : t < u). let up : 2 ^ suc t ≤ 2 ^ u = pow_mono (omega arith) in absurd (omega arith))
-    (λ (h : u ≤ t). ⊎_elim (λ (k : u < t). let up : 2 ^ suc u ≤ 2 ^ t = pow_mono (omega arith) in absurd (omega arith)) (λ (k : t ≤ u). omega arith) (order u t))
-    (order t u)
+    (λ (h : u ≤ t). ⊎_elim (λ (k : u < t). let up : 2 ^ suc u ≤ 2 ^ t = pow_mono (omega arith) in absurd (omega arith)) (λ (k : t ≤ u). omega arith) (cases_lt u t))
+    (cases_lt t u)
