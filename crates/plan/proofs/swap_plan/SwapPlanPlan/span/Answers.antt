@@ -5,14 +5,6 @@ use Rattle.plan.specs.Makers.{swap_of}
 use Rattle.plan.proofs.Telling.{told_ok}
 use Rattle.plan.proofs.swap_plan.SwapPlanPlan.span.Goals as goal
 
-pub overflow_sub-rank : goal.overflow_sub-rank
-overflow_sub-rank c =
-    let m = swap_of c.args.self.now in
-    let t = round_of m c.args.round in
-    let told = told_ok m c.args.rank (m.group t c.args.rank) _ c.in_ok-group.ensures in
-    let inside = m.member t c.args.rank (min-le_right _ _) told.0 in
-    omega (arith, ap (λ x. x.start) told.1)
-
 pub part-requires : goal.part-requires
 part-requires c =
     let m = swap_of c.args.self.now in
