@@ -1,7 +1,7 @@
 -- Products of factors, and what a radix plan's factors make of ranks and pixels.
-use Rattle.std.proofs.Common.{◌≡◌, ℕ, zero, suc, ◌+◌, ◌-◌, ◌*◌, ◌^◌, ◌<◌, ◌≤◌, List, [], ◌∷◌, ◌++◌, length, get_or, take, map, sym, refl, ap, ◌∙◌, subst, le_refl, mul-le-mul, mul-le-mul_left, mul-one, one-mul, mul_assoc, arith, ⊎_elim}
+use Rattle.std.proofs.Common.{◌≡◌, ℕ, zero, suc, ◌*◌, ◌^◌, ◌<◌, ◌≤◌, List, [], ◌∷◌, ◌++◌, length, get_or, take, drop, map, sym, refl, ap, ◌∙◌, mul-le-mul, mul-one, one-mul, mul_assoc, arith, ⊎_elim}
 use Rattle.std.proofs.Math.Nat.{mul-pos, le-mul_of_pos_right, pow-succ', pow-le-pow_right, mul-zero}
-use Rattle.std.proofs.lemmas.List.{get_or-take, length-take}
+use Rattle.std.proofs.lemmas.List.{get_or-take, get_or_default, length-take, take-append-drop}
 use Rattle.std.proofs.lemmas.List.Folds.{fold-map}
 use Rattle.std.proofs.lemmas.Iterator.{YieldsList-from_slice}
 use Rattle.std.proofs.iter.Yields.{fronts, gives_along, gives_Drains}
@@ -13,13 +13,8 @@ use Rattle.std.specs.Prelude.{⊤}
 use Rattle.std.specs.Borrow.{Bor}
 use Rattle.std.proofs.Common.{Iter}
 use Rattle.plan.specs.Factors.{product, factor, width, Each, Suits}
-use Rattle.plan.specs.RadixRules.{ahead, factor_pos, whole}
+use Rattle.plan.specs.RadixRules.{ahead}
 use Rattle.std.proofs.lemmas.Bool.{cases_lt}
-
-pub in_range : (ks : List ℕ) (t : ℕ) → t < length ks → get_or ks t 0 ≡ factor ks t
-in_range [] t h = absurd (omega arith)
-in_range (k ∷ ks) zero h = refl
-in_range (k ∷ ks) (suc t) h = in_range ks t (omega arith)
 
 fold-product : (a : ℕ) (xs : List ℕ) → fold (λ x y. x * y) a xs ≡ a * product xs
 fold-product a [] = sym (mul-one a)
@@ -71,19 +66,16 @@ width-take ks zero h = refl
 width-take [] (suc t) h = absurd (omega arith)
 width-take (k ∷ ks) (suc t) h = ahead k ks t ∙ ap (λ w. k * w) (width-take ks t (omega arith))
 
-widths : (k : ℕ → ℕ) → ((t : ℕ) → 0 < k t) → (n t u : ℕ) → n + t ≡ u → width k t ≤ width k u
-widths k pos zero t u e = let s : t ≡ u = omega arith in subst (λ x. width k t ≤ width k x) s (le_refl (width k t))
-widths k pos (suc n) t u e =
-    let ih = widths k pos n (suc t) u (omega arith) in
-    let up : width k t * 1 ≤ width k t * k t = mul-le-mul_left (width k t) (pos t) in
-    let one = mul-one (width k t) in
-    omega arith
-
 -- no group is wider than the last
 pub width_le : (R : ℕ) (ks : List ℕ) → Suits R ks → (t : ℕ) → t ≤ length ks → width (factor ks) t ≤ R
 width_le R ks suits t h =
-    let up = widths (factor ks) (factor_pos ks suits.1) (length ks - t) t (length ks) (omega arith) in
-    let all = whole R ks suits in
+    let first = product (take t ks) in
+    let others = product (drop t ks) in
+    let all : product ks ≡ first * others = ap product (sym (take-append-drop t ks)) ∙ product-append (take t ks) (drop t ks) in
+    let pos = (product_bound ks suits.1).0 in
+    let le = front-le first others (omega arith) in
+    let is = width-take ks t h in
+    let whole = suits.2 in
     omega arith
 
 -- the factor at hand, where the first n are gone through
@@ -91,6 +83,6 @@ pub read : (ks xs : List ℕ) (n i : ℕ) → xs ≡ take n ks → i < length xs
 read ks xs n i e h each =
     let few = length-take n ks in
     let len = ap length e in
-    let at : get_or xs i 0 ≡ factor ks i = ap (λ ys. get_or ys i 0) e ∙ get_or-take n ks i 0 (omega arith) ∙ in_range ks i (omega arith) in
+    let at : get_or xs i 0 ≡ factor ks i = ap (λ ys. get_or ys i 0) e ∙ get_or-take n ks i 0 (omega arith) ∙ get_or_default ks i 0 1 (omega arith) in
     let one = each i (omega arith) in
     (at, omega arith, omega arith)

@@ -1,11 +1,10 @@
 -- What an answer about a rank says.
-use Rattle.std.proofs.Common.{◌≡◌, ℕ, suc, ◌<◌, ◌≤◌, ltb, Ok, Err, Result, ap, ◌∙◌, ap₂, ⊎_elim, arith}
+use Rattle.std.proofs.Common.{◌≡◌, ℕ, ◌<◌, ◌≤◌, ltb, Ok, Err, Result, ap, ◌∙◌, ⊎_elim, arith}
 use Rattle.std.proofs.lemmas.Bool.{cases_lt, cond-true, cond-false, lt-ltb, le-ltb}
 use Rattle.tile.specs.declared.fault.Fault.{Fault}
 use Rattle.plan.specs.declared.runs.Run.{Run}
-use Rattle.plan.specs.Answers.{asked, told, outside, round_of, group_told, span_told, piece_told}
-use Rattle.plan.specs.Model.{PlanModel, piece}
-use Rattle.plan.specs.Runs.{common}
+use Rattle.plan.specs.Answers.{asked, told, outside, round_of, group_told, span_told}
+use Rattle.plan.specs.Model.{PlanModel}
 
 module _ {A : Type 0} (p : PlanModel) (rank : ℕ) where
   pub asked_in : (answer : Result A Fault) → rank < p.ranks → asked p rank answer ≡ answer
@@ -25,15 +24,6 @@ module _ {A : Type 0} (p : PlanModel) (rank : ℕ) where
 module _ (p : PlanModel) where
   reached : (t : ℕ) → t ≤ p.rounds → round_of p t ≡ t
   reached t h = omega arith
-
-  pub span_ok : (t r : ℕ) → t ≤ p.rounds → r < p.ranks → span_told p t r ≡ Ok (p.span t r)
-  span_ok t r ht hr = asked_in p r (Ok (p.span (round_of p t) r)) hr ∙ ap (λ u. Ok (p.span u r)) (reached t ht)
-
-  pub piece_ok : (t f r : ℕ) → t < p.rounds → f < p.ranks → r < p.ranks → piece_told p t f r ≡ Ok (piece p t f r)
-  piece_ok t f r ht hf hr =
-      asked_in p f (told p r (common (p.span (round_of p t) f) (p.span (round_of p (suc t)) r))) hf
-      ∙ asked_in p r (Ok (common (p.span (round_of p t) f) (p.span (round_of p (suc t)) r))) hr
-      ∙ ap₂ (λ u v. Ok (common (p.span u f) (p.span v r))) (reached t (omega arith)) (reached (suc t) (omega arith))
 
   -- the group that was told in a round that the plan has
   pub group_is : (t r : ℕ) (s : Run) → t ≤ p.rounds → Ok s ≡ group_told p t r → (r < p.ranks) × (s ≡ p.group t r)
