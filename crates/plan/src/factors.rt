@@ -7,6 +7,7 @@ ghost use Rattle.plan.specs.Factors.{Each, Suits};
 use tile::fault::{Fault, Ground};
 
 // At most five factors: the first `count` of `values`.
+// Stays: a plan is `Copy` and has no heap, and the kit's `ArrayVec` is not `Copy`.
 #[derive(Clone, Copy)]
 pub(crate) struct Factors {
     values: [u32; 5],

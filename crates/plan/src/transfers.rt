@@ -11,7 +11,7 @@ use crate::step::Step;
 use crate::transfer::Transfer;
 use tile::fault::{Fault, Ground, unranked};
 
-impl<'a, P: Plan> Step<'a, P> {
+impl<P: Plan> Step<'_, P> {
     // What `sender` sends to `receiver`, if anything.
     fn transfer(&self, sender: u32, receiver: u32) -> Result<Option<Transfer>, Fault>
         ensures { let m = P.model self.now.plan.now in MatchResult result (λ o. option_to_list o ≡ between m self.now.round sender receiver) (λ _. (sender < m.ranks) × (receiver < m.ranks) → ⊥) }
