@@ -1,5 +1,5 @@
 -- What an answer about a rank says.
-use Rattle.std.proofs.Common.{◌≡◌, ℕ, ◌<◌, ◌≤◌, ltb, Ok, Err, Result, ap, ◌∙◌, ⊎_elim, arith}
+use Rattle.std.proofs.Common.{◌≡◌, ℕ, suc, ◌+◌, ◌<◌, ◌≤◌, ltb, Ok, Err, Result, ap, ◌∙◌, ⊎_elim, add-one, arith}
 use Rattle.std.proofs.lemmas.Bool.{cases_lt, cond-true, cond-false, lt-ltb, le-ltb}
 use Rattle.tile.specs.declared.fault.Fault.{Fault}
 use Rattle.plan.specs.declared.runs.Run.{Run}
@@ -22,13 +22,12 @@ module _ {A : Type 0} (p : PlanModel) (rank : ℕ) where
       (cases_lt rank p.ranks)
 
 module _ (p : PlanModel) where
-  reached : (t : ℕ) → t ≤ p.rounds → round_of p t ≡ t
-  reached t h = omega arith
+  reached : (t u : ℕ) → u ≡ t → t ≤ p.rounds → round_of p u ≡ t
+  reached t u e h = omega arith
 
-  -- the group that was told in a round that the plan has
-  pub group_is : (t r : ℕ) (s : Run) → t ≤ p.rounds → Ok s ≡ group_told p t r → (r < p.ranks) × (s ≡ p.group t r)
-  group_is t r s ht e = let k = told_ok p r (p.group (round_of p t) r) s e in (k.0, k.1 ∙ ap (λ u. p.group u r) (reached t ht))
+  -- what was told of the next round
+  pub next_group : (t r : ℕ) (s : Run) → t < p.rounds → Ok s ≡ group_told p (t + 1) r → (r < p.ranks) × (s ≡ p.group (suc t) r)
+  next_group t r s ht e = let k = told_ok p r (p.group (round_of p (t + 1)) r) s e in (k.0, k.1 ∙ ap (λ u. p.group u r) (reached (suc t) (t + 1) (add-one t) (omega arith)))
 
-  -- the span in a round that the plan has
-  pub span_is : (t r : ℕ) (s : Run) → t ≤ p.rounds → Ok s ≡ span_told p t r → (r < p.ranks) × (s ≡ p.span t r)
-  span_is t r s ht e = let k = told_ok p r (p.span (round_of p t) r) s e in (k.0, k.1 ∙ ap (λ u. p.span u r) (reached t ht))
+  pub next_span : (t r : ℕ) (s : Run) → t < p.rounds → Ok s ≡ span_told p (t + 1) r → (r < p.ranks) × (s ≡ p.span (suc t) r)
+  next_span t r s ht e = let k = told_ok p r (p.span (round_of p (t + 1)) r) s e in (k.0, k.1 ∙ ap (λ u. p.span u r) (reached (suc t) (t + 1) (add-one t) (omega arith)))

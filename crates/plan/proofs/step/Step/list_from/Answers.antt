@@ -1,7 +1,7 @@
-use Rattle.std.proofs.Common.{◌≡◌, suc, ◌+◌, ◌-◌, sym, ap, ◌∙◌, subst, add-one, arith}
+use Rattle.std.proofs.Common.{◌≡◌, suc, ◌+◌, ◌-◌, sym, ap, subst, arith}
 use Rattle.plan.specs.Order.{between, to_place, Adds}
 use Rattle.plan.proofs.Putting.{adds_none, adds_turn, up_to-short, between-short}
-use Rattle.plan.proofs.Telling.{group_is}
+use Rattle.plan.proofs.Telling.{next_group}
 use Rattle.plan.proofs.step.Step.list_from.Goals as goal
 use Rattle.plan.proofs.step.Step.list_from.Goals.{in-Some, in_default}
 
@@ -12,9 +12,9 @@ put-requires g c =
     let f = c.args.sender in
     let r = c.loop-receiver.receiver in
     let early = c.args.self.now.early in
-    let group = group_is m (t + 1) f c.in_ok-group.group (omega arith) c.in_ok-group.ensures in
-    let start = ap (λ x. x.start) (group.1 ∙ ap (λ u. m.group u f) (add-one t)) in
-    let len = ap (λ x. x.len) (group.1 ∙ ap (λ u. m.group u f) (add-one t)) in
+    let group = next_group m t f c.in_ok-group.group early c.in_ok-group.ensures in
+    let start = ap (λ x. x.start) group.1 in
+    let len = ap (λ x. x.len) group.1 in
     let fits = m.group_within (suc t) f (omega arith) group.0 in
     let few = up_to-short (to_place m t f) 1 (r - (m.group (suc t) f).start) (λ j h. between-short m t f _) in
     let next = c.loop-receiver.invariant.put.next in
@@ -28,8 +28,8 @@ loop-receiver-preserved g c =
     let f = c.args.sender in
     let r = c.loop-receiver.receiver in
     let early = c.args.self.now.early in
-    let group = group_is m (t + 1) f c.in_ok-group.group (omega arith) c.in_ok-group.ensures in
-    let start = ap (λ x. x.start) (group.1 ∙ ap (λ u. m.group u f) (add-one t)) in
+    let group = next_group m t f c.in_ok-group.group early c.in_ok-group.ensures in
+    let start = ap (λ x. x.start) group.1 in
     let first = (m.group (suc t) f).start in
     let one : Adds (between m t f r) c.loop-receiver.listing c.match-branch-3.listing =
     elim c.match-branch-3.branch [
