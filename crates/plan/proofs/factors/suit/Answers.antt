@@ -1,5 +1,5 @@
 use Rattle.std.proofs.Common.{◌≡◌, ◌≤◌, length, sym, ◌∙◌, eq-eqb, arith}
-use borrow.Author.Tests.{leb-true, eqb-true}
+use Rattle.std.proofs.lemmas.Bool.{leb-true, eqb-true}
 use Rattle.plan.specs.Factors.{Each, product}
 use Rattle.plan.proofs.Factoring.{product_fits, product_is, product_small}
 use Rattle.plan.proofs.factors.suit.Goals as goal

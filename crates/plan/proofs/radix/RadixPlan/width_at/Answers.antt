@@ -1,5 +1,5 @@
 use Rattle.std.proofs.Common.{min, take, length, sym, ◌∙◌, arith}
-use native.Mathlib.Nat.{min-le_right}
+use Rattle.std.proofs.Math.Nat.{min-le_right}
 use Rattle.plan.specs.Factors.{factor}
 use Rattle.plan.specs.Makers.{factors_of}
 use Rattle.plan.specs.RadixRules.{factor_pos, width_pos}

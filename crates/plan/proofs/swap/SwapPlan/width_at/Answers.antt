@@ -1,5 +1,5 @@
 use Rattle.std.proofs.Common.{◌≡◌, min, ap, ◌∙◌, arith, pow_pos}
-use native.Mathlib.Nat.{min-le_right}
+use Rattle.std.proofs.Math.Nat.{min-le_right}
 use Rattle.std.proofs.lemmas.Nat.{one_shl}
 use Rattle.plan.specs.Makers.{swap_of}
 use Rattle.plan.specs.SwapRules.{width_le}

@@ -1,5 +1,5 @@
 use Rattle.std.proofs.Common.{◌+◌, ap, arith}
-use native.Mathlib.Nat.{min-le_right}
+use Rattle.std.proofs.Math.Nat.{min-le_right}
 use Rattle.plan.specs.Answers.{round_of}
 use Rattle.plan.specs.Makers.{swap_of}
 use Rattle.plan.proofs.Telling.{told_ok}
