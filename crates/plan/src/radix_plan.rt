@@ -1,5 +1,6 @@
 // The radix plan's answers, and its maker.
-ghost use Rattle.std.specs.Prelude.{◌≡◌, ◌<◌, ◌≤◌, min, take};
+ghost use Rattle.std.specs.Prelude.{◌≡◌, ◌<◌, take};
+ghost use Rattle.plan.specs.Answers.{round_of};
 ghost use Rattle.plan.specs.Factors.{factor, width};
 ghost use Rattle.plan.specs.Radix.{span};
 ghost use Rattle.plan.specs.Makers.{factors_of, radix_of, RadixMade};
@@ -23,7 +24,7 @@ impl RadixPlan {
 
     // The factors of the rounds up to this one.
     fn up_to(&self, round: u32) -> &[u32]
-        ensures { result.now ≡ take (min round (radix_of self.now).rounds) (factors_of self.now) }
+        ensures { result.now ≡ take (round_of (radix_of self.now) round) (factors_of self.now) }
     {
         let all = self.factors.as_slice();
         &all[..all.len().min(round as usize)]
@@ -31,7 +32,7 @@ impl RadixPlan {
 
     // How many ranks a group has in the round.
     fn width_at(&self, round: u32) -> u32
-        ensures is { result ≡ width (factor (factors_of self.now)) (min round (radix_of self.now).rounds) }
+        ensures is { result ≡ width (factor (factors_of self.now)) (round_of (radix_of self.now) round) }
         ensures some { 0 < result }
     {
         self.up_to(round).iter().product()
@@ -39,7 +40,7 @@ impl RadixPlan {
 
     // What the rank holds in the round.
     fn span_at(&self, round: u32, rank: u32) -> Run
-        ensures { result ≡ span (factor (factors_of self.now)) self.now.counts.pixels (min round (radix_of self.now).rounds) rank }
+        ensures { result ≡ span (factor (factors_of self.now)) self.now.counts.pixels (round_of (radix_of self.now) round) rank }
     {
         let mut span = self.counts.tile();
         let mut rest = rank;

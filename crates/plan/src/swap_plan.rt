@@ -1,5 +1,6 @@
 // The 2-3 plan's answers, and its maker.
-ghost use Rattle.std.specs.Prelude.{◌≡◌, ◌^◌, ◌<◌, ◌≤◌, min};
+ghost use Rattle.std.specs.Prelude.{◌≡◌, ◌^◌, ◌<◌, ◌≤◌};
+ghost use Rattle.plan.specs.Answers.{round_of};
 ghost use Rattle.plan.specs.Swap.{group_by};
 ghost use Rattle.plan.specs.Makers.{swap_of, SwapMade};
 
@@ -20,7 +21,7 @@ impl SwapPlan {
 
     // How many ranks a group has in the round, but for the last group.
     fn width_at(&self, round: u32) -> u32
-        ensures is { result ≡ 2 ^ min round (swap_of self.now).rounds }
+        ensures is { result ≡ 2 ^ round_of (swap_of self.now) round }
         ensures fits { (0 < result) × (result ≤ self.now.counts.ranks) }
     {
         1 << round.min(self.rounds())
