@@ -1,26 +1,34 @@
 -- The transfers in order are a transfer list, and none is shorter.
-use Rattle.std.proofs.Common.{◌≡◌, ℕ, zero, suc, ◌+◌, ◌-◌, ◌<◌, ◌≤◌, Bool, true, false, cond, eqb, ◌⊎◌, List, [], ◌∷◌, ◌++◌, length, sym, refl, ap, ◌∙◌, subst, inl, inr, ⊎_elim, arith}
-use borrow.Author.Tests.{eqb-false}
-use Rattle.std.proofs.ByRecursion.{All-append, All-weaker}
-use Rattle.std.proofs.lemmas.List.{append_assoc, length-append}
-use Rattle.std.specs.List.{AllByRecursion}
-use Rattle.plan.specs.Shares.{order}
+use Rattle.std.proofs.Common.{◌≡◌, ℕ, zero, suc, ◌+◌, ◌-◌, ◌<◌, ◌≤◌, Bool, true, false, cond, eqb, List, [], ◌∷◌, ◌++◌, length, take, drop, sym, refl, ap, ◌∙◌, subst, ⊎_elim, arith}
+use Rattle.std.proofs.lemmas.Bool.{eqb-false}
+use Rattle.std.proofs.lemmas.List.Elements.{All-nil, All-cons, All-append, All-weaker, All-contains, All-from_recursion, recursion_from_All, Contains-append_left, Contains-append_right, Contains-append_cases}
+use Rattle.std.proofs.lemmas.Map.Made.{Contains-tail}
+use Rattle.std.proofs.lemmas.List.{append_assoc, length-append, take-append-drop, drop_more}
+use Rattle.std.specs.List.{All, AllByRecursion, Contains}
+use Rattle.std.proofs.lemmas.Bool.{cases_lt}
+use Rattle.plan.specs.declared.listing.Listing.{Listing}
 use Rattle.plan.specs.declared.transfer.Transfer.{Transfer}
 use Rattle.plan.specs.Model.{PlanModel}
-use Rattle.plan.specs.Order.{up_to, between, to_place, from, in_round, all_rounds, Put, Wrote}
+use Rattle.plan.specs.Order.{up_to, between, to_place, from, in_round, all_rounds, Put, Adds, Wrote}
 use Rattle.plan.specs.Transfers.{transfer_of, IsTransfer, Once, Lists}
 use Rattle.plan.proofs.Putting.{between_is}
 
-up_to-all : (P : Transfer → Type 0) (g : ℕ → List Transfer) (n : ℕ) → ((j : ℕ) → j < n → AllByRecursion P (g j)) → AllByRecursion P (up_to g n)
-up_to-all P g zero h = tt
+up_to-all : (P : Transfer → Type 0) (g : ℕ → List Transfer) (n : ℕ) → ((j : ℕ) → j < n → All P (g j)) → All P (up_to g n)
+up_to-all P g zero h = All-nil P
 up_to-all P g (suc n) h = All-append P (up_to g n) (g n) (up_to-all P g n (λ j l. h j (omega arith))) (h n (omega arith))
 
 -- where every entry of g j tells j by its key, x stands once in all if it stands once in its own
 module _ (key : Transfer → ℕ) (g : ℕ → List Transfer) (x : Transfer) where
-  apart : (j : ℕ) → AllByRecursion (λ y. key y ≡ j) (g j) → (key x ≡ j → ⊥) → AllByRecursion (λ y. y ≡ x → ⊥) (g j)
-  apart j a ne = All-weaker (λ y. key y ≡ j) (λ y. y ≡ x → ⊥) (λ y k e. ne (ap key (sym e) ∙ k)) (g j) a
+  abbrev Other : Transfer → Type 0
+  Other y = y ≡ x → ⊥
 
-  once-up_to : (n : ℕ) → ((j : ℕ) → j < n → AllByRecursion (λ y. key y ≡ j) (g j)) → key x < n → Once x (g (key x)) → Once x (up_to g n)
+  without : (ys : List Transfer) → All Other ys → AllByRecursion Other ys
+  without = recursion_from_All Other
+
+  apart : (j : ℕ) → All (λ y. key y ≡ j) (g j) → (key x ≡ j → ⊥) → All Other (g j)
+  apart j a ne = All-weaker (λ y. key y ≡ j) Other (λ y k e. ne (ap key (sym e) ∙ k)) (g j) a
+
+  once-up_to : (n : ℕ) → ((j : ℕ) → j < n → All (λ y. key y ≡ j) (g j)) → key x < n → Once x (g (key x)) → Once x (up_to g n)
   once-up_to zero keys h o = absurd (omega arith)
   once-up_to (suc n) keys h o =
       ⊎_elim
@@ -29,39 +37,39 @@ module _ (key : Transfer → ℕ) (g : ℕ → List Transfer) (x : Transfer) whe
       let a = ih.0 in
       let b = ih.1 in
       let none = apart n (keys n (omega arith)) (λ e. omega arith) in
-      (a, b ++ g n, ap (λ ys. ys ++ g n) ih.2 ∙ append_assoc a (x ∷ b) (g n), subst (AllByRecursion (λ y. y ≡ x → ⊥)) (append_assoc a b (g n)) (All-append (λ y. y ≡ x → ⊥) (a ++ b) (g n) ih.3 none)))
+      (a, b ++ g n, ap (λ ys. ys ++ g n) ih.2 ∙ append_assoc a (x ∷ b) (g n), without (a ++ (b ++ g n)) (subst (All Other) (append_assoc a b (g n)) (All-append Other (a ++ b) (g n) (All-from_recursion Other (a ++ b) ih.3) none))))
       (λ (l : n ≤ key x).
       let here : key x ≡ n = omega arith in
       let at = subst (λ j. Once x (g j)) here o in
       let a = at.0 in
       let b = at.1 in
-      let none = up_to-all (λ y. y ≡ x → ⊥) g n (λ j k. apart j (keys j (omega arith)) (λ e. omega arith)) in
-      (up_to g n ++ a, b, ap (λ ys. up_to g n ++ ys) at.2 ∙ sym (append_assoc (up_to g n) a (x ∷ b)), subst (AllByRecursion (λ y. y ≡ x → ⊥)) (sym (append_assoc (up_to g n) a b)) (All-append (λ y. y ≡ x → ⊥) (up_to g n) (a ++ b) none at.3)))
-      (order (key x) n)
+      let none = up_to-all Other g n (λ j k. apart j (keys j (omega arith)) (λ e. omega arith)) in
+      (up_to g n ++ a, b, ap (λ ys. up_to g n ++ ys) at.2 ∙ sym (append_assoc (up_to g n) a (x ∷ b)), without ((up_to g n ++ a) ++ b) (subst (All Other) (sym (append_assoc (up_to g n) a b)) (All-append Other (up_to g n) (a ++ b) none (All-from_recursion Other (a ++ b) at.3)))))
+      (cases_lt (key x) n)
 
 module _ (m : PlanModel) where
   module _ (P : Transfer → Type 0) (t f r : ℕ) (h : (f ≡ r → ⊥) → ((transfer_of m t f r).piece.len ≡ 0 → ⊥) → P (transfer_of m t f r)) where
-    some : (b : Bool) → (f ≡ r → ⊥) → eqb (transfer_of m t f r).piece.len 0 ≡ b → AllByRecursion P (cond b [] (transfer_of m t f r ∷ []))
-    some true ne e = tt
-    some false ne e = (h ne (eqb-false (transfer_of m t f r).piece.len 0 e), tt)
+    some : (b : Bool) → (f ≡ r → ⊥) → eqb (transfer_of m t f r).piece.len 0 ≡ b → All P (cond b [] (transfer_of m t f r ∷ []))
+    some true ne e = All-nil P
+    some false ne e = All-cons P (transfer_of m t f r) [] (h ne (eqb-false (transfer_of m t f r).piece.len 0 e)) (All-nil P)
 
-    other : (b : Bool) → eqb f r ≡ b → AllByRecursion P (cond b [] (cond (eqb (transfer_of m t f r).piece.len 0) [] (transfer_of m t f r ∷ [])))
-    other true e = tt
+    other : (b : Bool) → eqb f r ≡ b → All P (cond b [] (cond (eqb (transfer_of m t f r).piece.len 0) [] (transfer_of m t f r ∷ [])))
+    other true e = All-nil P
     other false e = some (eqb (transfer_of m t f r).piece.len 0) (eqb-false f r e) refl
 
-    between_all : AllByRecursion P (between m t f r)
+    between_all : All P (between m t f r)
     between_all = other (eqb f r) refl
 
-  from_all : (P : Transfer → Type 0) (t f : ℕ) → ((i : ℕ) → i < (m.group (suc t) f).len → (f ≡ (m.group (suc t) f).start + i → ⊥) → ((transfer_of m t f ((m.group (suc t) f).start + i)).piece.len ≡ 0 → ⊥) → P (transfer_of m t f ((m.group (suc t) f).start + i))) → AllByRecursion P (from m t f)
+  from_all : (P : Transfer → Type 0) (t f : ℕ) → ((i : ℕ) → i < (m.group (suc t) f).len → (f ≡ (m.group (suc t) f).start + i → ⊥) → ((transfer_of m t f ((m.group (suc t) f).start + i)).piece.len ≡ 0 → ⊥) → P (transfer_of m t f ((m.group (suc t) f).start + i))) → All P (from m t f)
   from_all P t f h = up_to-all P (to_place m t f) (m.group (suc t) f).len (λ i l. between_all P t f ((m.group (suc t) f).start + i) (h i l))
 
-  pub sound : AllByRecursion (IsTransfer m) (all_rounds m)
-  sound =
+  each : All (IsTransfer m) (all_rounds m)
+  each =
       up_to-all (IsTransfer m) (in_round m) m.rounds (λ t lt.
       up_to-all (IsTransfer m) (from m t) m.ranks (λ f lf.
       from_all (IsTransfer m) t f (λ i li ne some. record { before = t; early = lt; known = lf; together = (omega arith, omega arith); different = ne; filled = omega arith; is = refl })))
 
-  pub complete : (x : Transfer) → IsTransfer m x → Once x (all_rounds m)
+  complete : (x : Transfer) → IsTransfer m x → Once x (all_rounds m)
   complete x p =
       let t = p.before in
       let f = x.sender in
@@ -80,65 +88,47 @@ module _ (m : PlanModel) where
       let back : t ≡ x.round - 1 = omega arith in
       once-up_to (λ y. y.round - 1) (in_round m) x m.rounds (λ j l. up_to-all (λ y. y.round - 1 ≡ j) (from m j) m.ranks (λ f lf. from_all (λ y. y.round - 1 ≡ j) j f (λ _ _ _ _. omega arith))) (omega arith) (subst (λ u. Once x (in_round m u)) back in-rounds)
 
-  pub all_listed : Lists m (all_rounds m)
-  all_listed = record { sound = sound; complete = complete }
+  all_listed : Lists m (all_rounds m)
+  all_listed = record { sound = recursion_from_All (IsTransfer m) (all_rounds m) each; complete = complete }
 
-abbrev Among : Transfer → List Transfer → Type 0
-Among x [] = ⊥
-Among x (y ∷ ys) = (x ≡ y) ⊎ Among x ys
+once_in : (x : Transfer) (xs : List Transfer) → Once x xs → Contains xs x
+once_in x xs o = subst (λ ys. Contains ys x) (sym o.2) (Contains-append_right o.0 (x ∷ o.1) x (0, omega arith, refl))
 
-abbrev Distinct : List Transfer → Type 0
-Distinct [] = Unit {0}
-Distinct (y ∷ ys) = (Among y ys → ⊥) × Distinct ys
-
-all_among : (P : Transfer → Type 0) (xs : List Transfer) (x : Transfer) → AllByRecursion P xs → Among x xs → P x
-all_among P [] x a i = absurd i
-all_among P (y ∷ ys) x a i = ⊎_elim (λ (e : x ≡ y). subst P (sym e) a.0) (λ (k : Among x ys). all_among P ys x a.1 k) i
-
-amid : (a b : List Transfer) (x : Transfer) → Among x (a ++ x ∷ b)
-amid [] b x = inl refl
-amid (y ∷ a) b x = inr (amid a b x)
-
-once_among : (x : Transfer) (xs : List Transfer) → Once x xs → Among x xs
-once_among x xs o = subst (Among x) (sym o.2) (amid o.0 o.1 x)
+none_in : (x : Transfer) (xs : List Transfer) → AllByRecursion (λ y. y ≡ x → ⊥) xs → Contains xs x → ⊥
+none_in x xs a i = All-contains (λ y. y ≡ x → ⊥) xs x (All-from_recursion (λ y. y ≡ x → ⊥) xs a) i refl
 
 -- x is among the others too
-others : (x y : Transfer) (a b : List Transfer) → (x ≡ y → ⊥) → Among x (a ++ y ∷ b) → Among x (a ++ b)
-others x y [] b ne i = ⊎_elim (λ (e : x ≡ y). absurd (ne e)) (λ (k : Among x b). k) i
-others x y (z ∷ a) b ne i = ⊎_elim (λ (e : x ≡ z). inl e) (λ (k : Among x (a ++ y ∷ b)). inr (others x y a b ne k)) i
+others : (x y : Transfer) (a b : List Transfer) → (y ≡ x → ⊥) → Contains (a ++ y ∷ b) x → Contains (a ++ b) x
+others x y a b ne i = ⊎_elim (Contains-append_left a b x) (λ k. Contains-append_right a b x (Contains-tail y b x ne k)) (Contains-append_cases a (y ∷ b) x i)
 
-none_among : (x : Transfer) (xs : List Transfer) → AllByRecursion (λ y. y ≡ x → ⊥) xs → Among x xs → ⊥
-none_among x xs a i = all_among (λ y. y ≡ x → ⊥) xs x a i refl
-
-head_apart : (y : Transfer) (ys a b : List Transfer) → y ∷ ys ≡ a ++ y ∷ b → AllByRecursion (λ z. z ≡ y → ⊥) (a ++ b) → Among y ys → ⊥
-head_apart y ys [] b e none i = let same : ys ≡ b = cc in none_among y b none (subst (Among y) same i)
+head_apart : (y : Transfer) (ys a b : List Transfer) → y ∷ ys ≡ a ++ y ∷ b → AllByRecursion (λ z. z ≡ y → ⊥) (a ++ b) → Contains ys y → ⊥
+head_apart y ys [] b e none i = let same : ys ≡ b = cc in none_in y b none (subst (λ zs. Contains zs y) same i)
 head_apart y ys (z ∷ a) b e none i = let same : z ≡ y = cc in none.0 same
 
-tail_once : (x y : Transfer) (ys a b : List Transfer) → y ∷ ys ≡ a ++ x ∷ b → AllByRecursion (λ z. z ≡ x → ⊥) (a ++ b) → Among x ys → Once x ys
-tail_once x y ys [] b e none i = let same : ys ≡ b = cc in absurd (none_among x b none (subst (Among x) same i))
+tail_once : (x y : Transfer) (ys a b : List Transfer) → y ∷ ys ≡ a ++ x ∷ b → AllByRecursion (λ z. z ≡ x → ⊥) (a ++ b) → Contains ys x → Once x ys
+tail_once x y ys [] b e none i = let same : ys ≡ b = cc in absurd (none_in x b none (subst (λ zs. Contains zs x) same i))
 tail_once x y ys (z ∷ a) b e none i = let same : ys ≡ a ++ x ∷ b = cc in (a, b, same, none.1)
 
-distinct : (ys : List Transfer) → ((x : Transfer) → Among x ys → Once x ys) → Distinct ys
-distinct [] h = tt
-distinct (y ∷ ys) h =
-    let o = h y (inl refl) in
-    (head_apart y ys o.0 o.1 o.2 o.3, distinct ys (λ x i. let q = h x (inr i) in tail_once x y ys q.0 q.1 q.2 q.3 i))
+split : (x : Transfer) (xs : List Transfer) → Contains xs x → (a : List Transfer) × (b : List Transfer) × (xs ≡ a ++ x ∷ b)
+split x xs i =
+    let k = i.0 in
+    (take k xs, drop (k + 1) xs, sym (take-append-drop k xs) ∙ ap (λ r. take k xs ++ r) (drop_more xs k x i.1 ∙ ap (λ y. y ∷ drop (k + 1) xs) i.2))
 
-split : (x : Transfer) (xs : List Transfer) → Among x xs → (a : List Transfer) × (b : List Transfer) × (xs ≡ a ++ x ∷ b)
-split x [] i = absurd i
-split x (y ∷ ys) i =
-    ⊎_elim
-    (λ (e : x ≡ y). ([], ys, ap (λ z. z ∷ ys) (sym e)))
-    (λ (k : Among x ys). let s = split x ys k in (y ∷ s.0, s.1, ap (λ zs. y ∷ zs) s.2))
-    i
-
-no_longer : (ys xs : List Transfer) → Distinct ys → ((x : Transfer) → Among x ys → Among x xs) → length ys ≤ length xs
-no_longer [] xs d h = omega arith
-no_longer (y ∷ ys) xs d h =
-    let s = split y xs (h y (inl refl)) in
+-- where each entry of ys stands once in it, and is in xs too
+no_longer : (ys xs : List Transfer) → ((x : Transfer) → Contains ys x → Once x ys) → ((x : Transfer) → Contains ys x → Contains xs x) → length ys ≤ length xs
+no_longer [] xs once h = omega arith
+no_longer (y ∷ ys) xs once h =
+    let here : Contains (y ∷ ys) y = (0, omega arith, refl) in
+    let o = once y here in
+    let s = split y xs (h y here) in
     let a = s.0 in
     let b = s.1 in
-    let ih = no_longer ys (a ++ b) d.1 (λ x i. others x y a b (λ e. d.0 (subst (λ z. Among z ys) e i)) (subst (Among x) s.2 (h x (inr i)))) in
+    let later : (x : Transfer) → Contains ys x → Contains (y ∷ ys) x = λ x. Contains-append_right (y ∷ []) ys x in
+    let ih =
+    no_longer ys (a ++ b)
+    (λ x i. let q = once x (later x i) in tail_once x y ys q.0 q.1 q.2 q.3 i)
+    (λ x i. others x y a b (λ e. head_apart y ys o.0 o.1 o.2 o.3 (subst (Contains ys) (sym e) i)) (subst (λ zs. Contains zs x) s.2 (h x (later x i))))
+    in
     let len = ap length s.2 in
     let long = length-append a (y ∷ b) in
     let short = length-append a b in
@@ -147,13 +137,14 @@ no_longer (y ∷ ys) xs d h =
 -- no transfer list is shorter
 least : (m : PlanModel) (xs : List Transfer) → Lists m xs → length (all_rounds m) ≤ length xs
 least m xs l =
-    let kept : (x : Transfer) → Among x (all_rounds m) → IsTransfer m x = λ x i. all_among (IsTransfer m) (all_rounds m) x (sound m) i in
-    no_longer (all_rounds m) xs (distinct (all_rounds m) (λ x i. complete m x (kept x i))) (λ x i. once_among x xs (l.complete x (kept x i)))
+    let kept : (x : Transfer) → Contains (all_rounds m) x → IsTransfer m x = λ x. All-contains (IsTransfer m) (all_rounds m) x (each m) in
+    no_longer (all_rounds m) xs (λ x i. complete m x (kept x i)) (λ x i. once_in x xs (l.complete x (kept x i)))
 
--- written from the first place on
-pub wrote : (m : PlanModel) (old new : List Transfer) (n : ℕ) → Put (all_rounds m) 0 old new n → Wrote m old new n
-wrote m old new n p =
-    let count : n ≡ length (all_rounds m) = let next = p.next in omega arith in
+-- all rounds are listed, from the first place on; what is then in the area is `now`
+pub wrote : (m : PlanModel) (n : ℕ) (first last : Listing) (now : List Transfer) → n ≡ m.rounds → first.count ≡ 0 → now ≡ last.area.now → Adds (up_to (in_round m) n) first last → Wrote m first.area.now now last.count
+wrote m n first last now all none e a =
+    let p : Put (all_rounds m) 0 first.area.now now last.count = rw (e, ← none) (subst (λ k. Put (up_to (in_round m) k) first.count first.area.now last.area.now last.count) all a.put) in
+    let count : last.count ≡ length (all_rounds m) = let next = p.next in omega arith in
     record {
       count = count;
       least = λ xs l. let le = least m xs l in omega arith;

@@ -1,10 +1,12 @@
 -- Sums and counts: the pixels that a rank sends in a round.
-use Rattle.std.proofs.Common.{◌≡◌, ℕ, zero, suc, ◌+◌, ◌-◌, ◌*◌, ◌<◌, ◌≤◌, min, cond, not, ◌&&◌, eqb, sym, refl, ap, ◌∙◌, subst, ap₂, ⊎_elim, arith}
+use Rattle.std.proofs.Common.{◌≡◌, ℕ, zero, suc, ◌+◌, ◌-◌, ◌*◌, ◌<◌, ◌≤◌, min, cond, not, ◌&&◌, eqb, Ok, sym, refl, ap, ◌∙◌, subst, ap₂, ⊎_elim, arith}
 use Rattle.std.proofs.lemmas.Bool.{cases_eq, cond-true, cond-false, eq-eqb, ne_eqb}
 use Rattle.plan.specs.declared.runs.Run.{Run}
 use Rattle.plan.specs.Amounts.{sum_below, count_below, leaving, sent_to, PiecesAreLeft}
+use Rattle.plan.specs.Answers.{span_told}
 use Rattle.plan.specs.Model.{PlanModel, piece}
 use Rattle.plan.specs.Runs.{In, has, common}
+use Rattle.plan.proofs.Telling.{next_span}
 use Rattle.plan.proofs.Inside.{has_in, has-out, has-before, has-behind, where_is, in_or_not, common_in, in_common}
 
 pub sum_same : (f g : ℕ → ℕ) (n : ℕ) → ((k : ℕ) → k < n → f k ≡ g k) → sum_below f n ≡ sum_below g n
@@ -161,3 +163,9 @@ sent-few p r (suc t) ht hr =
     let ih = sent-few p r t (omega arith) hr in
     let one = leaving-few p r t (omega arith) hr in
     omega arith
+
+-- what leaves, where the spans were told and their common part was taken
+pub left_is : (p : PlanModel) (r t : ℕ) (old new kept : Run) → t < p.rounds → old ≡ p.span t r → Ok new ≡ span_told p (t + 1) r → kept ≡ common old new → (r < p.ranks) × (new ≡ p.span (suc t) r) × (old.len - kept.len ≡ leaving p r t)
+left_is p r t old new kept ht before told both =
+    let next = next_span p t r new ht told in
+    (next.0, next.1, ap (λ s. old.len - s.len) both ∙ ap₂ (λ a b. a.len - (common a b).len) before next.1 ∙ sym (leaving-is p r t ht next.0))

@@ -1,82 +1,88 @@
--- Reading a radix plan's factors.
-use Rattle.std.proofs.Common.{◌≡◌, ℕ, zero, suc, ◌+◌, ◌-◌, ◌*◌, ◌/◌, ◌%◌, ◌^◌, ◌<◌, ◌≤◌, List, [], ◌∷◌, length, get_or, sym, refl, ap, ◌∙◌, subst, le_refl, mul-le-mul, mul-le-mul_left, pow-suc, mul-one, add-one, arith}
-use native.Mathlib.Nat.{pow-le-pow_right}
-use Rattle.std.proofs.lemmas.List.{get_or-take}
-use Rattle.plan.specs.declared.radix.RadixPlan.{RadixPlan}
-use Rattle.plan.specs.declared.runs.Run.{Run}
-use Rattle.plan.specs.Factors.{factor, width, Suits}
-use Rattle.plan.specs.Makers.{factors_of}
-use Rattle.plan.specs.Radix.{part, span}
-use Rattle.plan.specs.RadixRules.{factor_pos, whole, fits, width_pos}
-use Rattle.plan.specs.Runs.{cut}
-use Rattle.plan.specs.Shares.{cut_all, cut_up}
+-- Products of factors, and what a radix plan's factors make of ranks and pixels.
+use Rattle.std.proofs.Common.{◌≡◌, ℕ, zero, suc, ◌*◌, ◌^◌, ◌<◌, ◌≤◌, List, [], ◌∷◌, ◌++◌, length, get_or, take, drop, map, sym, refl, ap, ◌∙◌, mul-le-mul, mul-one, one-mul, mul_assoc, arith, ⊎_elim}
+use Rattle.std.proofs.Math.Nat.{mul-pos, le-mul_of_pos_right, pow-succ', pow-le-pow_right, mul-zero}
+use Rattle.std.proofs.lemmas.List.{get_or-take, get_or_default, length-take, take-append-drop}
+use Rattle.std.proofs.lemmas.List.Folds.{fold-map}
+use Rattle.std.proofs.lemmas.Iterator.{YieldsList-from_slice}
+use Rattle.std.proofs.iter.Yields.{fronts, gives_along, gives_Drains}
+use Rattle.std.proofs.iter.runs.Made.{runs_from_along}
+use Rattle.std.specs.Iterator.{Drains}
+use Rattle.std.specs.Iterator.Runs.{EachRunFrom}
+use Rattle.std.specs.List.{fold}
+use Rattle.std.specs.Prelude.{⊤}
+use Rattle.std.specs.Borrow.{Bor}
+use Rattle.std.proofs.Common.{Iter}
+use Rattle.plan.specs.Factors.{product, factor, width, Each, Suits}
+use Rattle.plan.specs.RadixRules.{ahead}
+use Rattle.std.proofs.lemmas.Bool.{cases_lt}
 
-pub in_range : (ks : List ℕ) (t : ℕ) → t < length ks → get_or ks t 0 ≡ factor ks t
-in_range [] t h = absurd (omega arith)
-in_range (k ∷ ks) zero h = refl
-in_range (k ∷ ks) (suc t) h = in_range ks t (omega arith)
+fold-product : (a : ℕ) (xs : List ℕ) → fold (λ x y. x * y) a xs ≡ a * product xs
+fold-product a [] = sym (mul-one a)
+fold-product a (x ∷ xs) = fold-product (a * x) xs ∙ mul_assoc a x (product xs)
 
-widths : (k : ℕ → ℕ) → ((t : ℕ) → 0 < k t) → (n t u : ℕ) → n + t ≡ u → width k t ≤ width k u
-widths k pos zero t u e = let s : t ≡ u = omega arith in subst (λ x. width k t ≤ width k x) s (le_refl (width k t))
-widths k pos (suc n) t u e =
-    let ih = widths k pos n (suc t) u (omega arith) in
-    let up : width k t * 1 ≤ width k t * k t = mul-le-mul_left (width k t) (pos t) in
-    let one = mul-one (width k t) in
-    omega arith
+product-append : (xs ys : List ℕ) → product (xs ++ ys) ≡ product xs * product ys
+product-append [] ys = sym (one-mul (product ys))
+product-append (x ∷ xs) ys = ap (λ n. x * n) (product-append xs ys) ∙ sym (mul_assoc x (product xs) (product ys))
+
+multiplied : (seen : List (Bor ℕ)) → fold (λ a (x : Bor ℕ). a * x.now) 1 seen ≡ product (map (λ (x : Bor ℕ). x.now) seen)
+multiplied seen =
+    let seen' = map (λ (x : Bor ℕ). x.now) seen in
+    sym (fold-map (λ a x. a * x) (λ (x : Bor ℕ). x.now) 1 seen) ∙ fold-product 1 seen' ∙ one-mul (product seen')
+
+front-le : (a b : ℕ) → 0 < a * b → a ≤ a * b
+front-le a b h = ⊎_elim (λ (p : 0 < b). le-mul_of_pos_right a p) (λ (z : b ≤ 0). let e : b ≡ 0 = omega arith in let n : a * b ≡ 0 = ap (λ x. a * x) e ∙ mul-zero a in absurd (omega arith)) (cases_lt 0 b)
+
+-- what `product` asks of a slice
+pub product_fits : (xs : List ℕ) (s : Iter ℕ) (top : ℕ) → s.rest.now ≡ xs → 0 < product xs → product xs < top → EachRunFrom fronts s (λ p. fold (λ a (x : Bor ℕ). a * x.now) 1 p.items < top)
+product_fits xs s top e pos h =
+    runs_from_along fronts s (λ seen. fold (λ a (x : Bor ℕ). a * x.now) 1 seen < top) (gives_along fronts (λ (y : Bor ℕ). y.now) (λ seen. fold (λ a (x : Bor ℕ). a * x.now) 1 seen < top) xs s (YieldsList-from_slice xs e).runs (λ seen more w.
+    let front = map (λ (x : Bor ℕ). x.now) seen in
+    let all : product xs ≡ product front * product more = ap product w ∙ product-append front more in
+    let le = front-le (product front) (product more) (omega arith) in
+    let m = multiplied seen in
+    omega arith))
+
+-- what it answers
+pub product_is : (xs : List ℕ) (s : Iter ℕ) (r : ℕ) → s.rest.now ≡ xs → ((ys : List (Bor ℕ)) × (⊤ → Drains fronts s ys) × (r ≡ fold (λ a (x : Bor ℕ). a * x.now) 1 ys)) → r ≡ product xs
+product_is xs s r e h = h.2 ∙ multiplied h.0 ∙ ap product (gives_Drains fronts (λ (y : Bor ℕ). y.now) h.0 xs s (YieldsList-from_slice xs e).runs (h.1 tt))
+
+-- of factors of 2 to 32
+product_bound : (ks : List ℕ) → Each ks → (0 < product ks) × (product ks ≤ 32 ^ length ks)
+product_bound [] e = (omega arith, omega arith)
+product_bound (k ∷ ks) e =
+    let ih = product_bound ks (λ t h. e (suc t) (omega arith)) in
+    let one = e 0 (omega arith) in
+    (mul-pos (omega arith) ih.0, rw (pow-succ' 32 (length ks)) (mul-le-mul one.1 ih.1))
+
+pub product_small : (ks : List ℕ) → length ks ≤ 5 → Each ks → (0 < product ks) × (product ks < 2 ^ 32)
+product_small ks few each =
+    let b = product_bound ks each in
+    let top : 32 ^ length ks ≤ 32 ^ 5 = pow-le-pow_right (omega arith) few in
+    (b.0, omega arith)
+
+-- a width is the product of the first factors
+pub width-take : (ks : List ℕ) (t : ℕ) → t ≤ length ks → width (factor ks) t ≡ product (take t ks)
+width-take ks zero h = refl
+width-take [] (suc t) h = absurd (omega arith)
+width-take (k ∷ ks) (suc t) h = ahead k ks t ∙ ap (λ w. k * w) (width-take ks t (omega arith))
 
 -- no group is wider than the last
 pub width_le : (R : ℕ) (ks : List ℕ) → Suits R ks → (t : ℕ) → t ≤ length ks → width (factor ks) t ≤ R
 width_le R ks suits t h =
-    let up = widths (factor ks) (factor_pos ks suits.1) (length ks - t) t (length ks) (omega arith) in
-    let all = whole R ks suits in
+    let first = product (take t ks) in
+    let others = product (drop t ks) in
+    let all : product ks ≡ first * others = ap product (sym (take-append-drop t ks)) ∙ product-append (take t ks) (drop t ks) in
+    let pos = (product_bound ks suits.1).0 in
+    let le = front-le first others (omega arith) in
+    let is = width-take ks t h in
+    let whole = suits.2 in
     omega arith
 
--- one more factor
-pub grows : (w k i : ℕ) → w ≤ 32 ^ i → k ≤ 32 → w * k ≤ 32 ^ (i + 1)
-grows w k i h l = rw (add-one i, pow-suc 32 i) (mul-le-mul h l)
-
-pub small : (n i : ℕ) → n ≤ 32 ^ i → i ≤ 5 → n < 2 ^ 32
-small n i h l = let up : 32 ^ i ≤ 32 ^ 5 = pow-le-pow_right (omega arith) l in omega arith
-
-module _ (p : RadixPlan) (i : ℕ) (h : i < p.rounds) where
-  read : get_or p.factors i 0 ≡ factor (factors_of p) i
-  read =
-      let n = p.counted in
-      sym (get_or-take p.rounds p.factors i 0 h) ∙ in_range (factors_of p) i (omega arith)
-
-  pub lawful : (2 ≤ get_or p.factors i 0) × (get_or p.factors i 0 ≤ 32)
-  lawful =
-      let n = p.counted in
-      let l = p.suits.1 i (omega arith) in
-      let e = read in
-      (omega arith, omega arith)
-
-  pub wider : (w : ℕ) → w ≡ width (factor (factors_of p)) i → w * get_or p.factors i 0 ≡ width (factor (factors_of p)) (i + 1)
-  wider w e = ap (λ x. x * get_or p.factors i 0) e ∙ ap (λ x. width (factor (factors_of p)) i * x) read ∙ ap (width (factor (factors_of p))) (sym (add-one i))
-
-  pub wider_le : (w : ℕ) → w ≡ width (factor (factors_of p)) i → w * get_or p.factors i 0 ≤ 32
-  wider_le w e =
-      let n = p.counted in
-      let up = wider w e in
-      let top = p.limits.0.1 in
-      let le = width_le p.ranks (factors_of p) p.suits (i + 1) (omega arith) in
-      omega arith
-
-  pub narrower : (r w : ℕ) (s : Run) → w ≡ width (factor (factors_of p)) i → s ≡ span (factor (factors_of p)) p.pixels i r → part s (get_or p.factors i 0) (r / w % get_or p.factors i 0) ≡ span (factor (factors_of p)) p.pixels (i + 1) r
-  unfolding span
-  narrower r w s e f = let k = read in rw (add-one i) (cc)
-
-module _ (p : RadixPlan) where
-  pub some : (w i : ℕ) → w ≡ width (factor (factors_of p)) i → 0 < w
-  some w i e = let pos = width_pos (factor (factors_of p)) (factor_pos (factors_of p) p.suits.1) i in omega arith
-
-  pub short : (s : Run) (i r : ℕ) → s ≡ span (factor (factors_of p)) p.pixels i r → s.start + s.len ≤ 1024
-  short s i r e =
-      let f = fits (factor (factors_of p)) (factor_pos (factors_of p) p.suits.1) p.pixels i r in
-      let a = ap (λ x. x.start) e in
-      let b = ap (λ x. x.len) e in
-      let l = p.limits in
-      omega arith
-
-pub part_le : (n k d : ℕ) → d < k → cut n k d ≤ n
-part_le n k d h = let all = cut_all n k (omega arith) in let up = cut_up n k (omega arith) d k (omega arith) in omega arith
+-- the factor at hand, where the first n are gone through
+pub read : (ks xs : List ℕ) (n i : ℕ) → xs ≡ take n ks → i < length xs → Each ks → (get_or xs i 0 ≡ factor ks i) × (2 ≤ get_or xs i 0) × (get_or xs i 0 ≤ 32)
+read ks xs n i e h each =
+    let few = length-take n ks in
+    let len = ap length e in
+    let at : get_or xs i 0 ≡ factor ks i = ap (λ ys. get_or ys i 0) e ∙ get_or-take n ks i 0 (omega arith) ∙ get_or_default ks i 0 1 (omega arith) in
+    let one = each i (omega arith) in
+    (at, omega arith, omega arith)

@@ -1,12 +1,13 @@
 -- Writing one list of transfers after another.
-use Rattle.std.proofs.Common.{◌≡◌, ℕ, zero, suc, ◌+◌, ◌-◌, ◌*◌, ◌<◌, ◌≤◌, true, false, cond, eqb, List, [], ◌∷◌, ◌++◌, length, take, drop, set, sym, refl, ap, ◌∙◌, subst, add-mul, add-one, arith, ne_eqb}
-use Rattle.std.proofs.lemmas.List.{append-nil, append_assoc, length-append, drop-drop, take_more_set, drop-set-lt}
+use Rattle.std.proofs.Common.{◌≡◌, ℕ, zero, suc, ◌+◌, ◌-◌, ◌*◌, ◌<◌, ◌≤◌, true, false, cond, eqb, List, [], ◌∷◌, ◌++◌, length, take, drop, sym, refl, ap, ◌∙◌, subst, add-mul, add-one, arith, ne_eqb}
+use Rattle.std.proofs.lemmas.List.{append-nil, append_assoc, length-append, drop-drop}
+use Rattle.plan.specs.declared.listing.Listing.{Listing}
 use Rattle.plan.specs.declared.transfer.Transfer.{Transfer}
 use Rattle.plan.specs.Model.{PlanModel}
-use Rattle.plan.specs.Order.{up_to, between, to_place, from, in_round, Put}
+use Rattle.plan.specs.Order.{up_to, between, to_place, from, in_round, Put, Adds}
 use Rattle.plan.specs.Transfers.{transfer_of}
 
-pub put_none : (n : ℕ) (xs : List Transfer) → Put [] n xs xs n
+put_none : (n : ℕ) (xs : List Transfer) → Put [] n xs xs n
 put_none n xs = record { next = omega arith; front = λ h. sym (append-nil (take n xs)); rest = λ h. refl }
 
 further : (k l : ℕ) (xs ys : List Transfer) → k ≤ l → drop k xs ≡ drop k ys → drop l xs ≡ drop l ys
@@ -25,9 +26,18 @@ put-more ys zs n k l old mid new same p q =
       rest = λ h. q.rest (omega arith) ∙ further k l mid old (omega arith) (p.rest (omega arith));
     }
 
+pub adds_none : (l : Listing) → Adds [] l l
+adds_none l = record { same_area = refl; same_length = refl; put = put_none l.count l.area.now }
+
 -- one turn of a loop
-pub put_turn : (g : ℕ → List Transfer) (i n k l : ℕ) (old mid new : List Transfer) → length mid ≡ length old → Put (up_to g i) n old mid k → Put (g i) k mid new l → Put (up_to g (i + 1)) n old new l
-put_turn g i n k l old mid new same p q = rw (add-one i) (put-more (up_to g i) (g i) n k l old mid new same p q)
+pub adds_turn : (g : ℕ → List Transfer) (i : ℕ) (a b c : Listing) → Adds (up_to g i) a b → Adds (g i) b c → Adds (up_to g (i + 1)) a c
+adds_turn g i a b c p q =
+    rw (add-one i) (
+    record {
+      same_area = q.same_area ∙ p.same_area;
+      same_length = q.same_length ∙ p.same_length;
+      put = put-more (up_to g i) (g i) a.count b.count c.count a.area.now b.area.now c.area.now p.same_length p.put q.put;
+    })
 
 -- how long such a list can be
 pub up_to-short : (g : ℕ → List Transfer) (b n : ℕ) → ((j : ℕ) → j < n → length (g j) ≤ b) → length (up_to g n) ≤ n * b
@@ -63,15 +73,3 @@ module _ (m : PlanModel) (t : ℕ) where
         let a = up_to-short (from m t) 32 m.ranks from-short in
         let l = m.rank_limit in
         omega arith
-
-pub put_one : (x : Transfer) (n : ℕ) (xs : List Transfer) → n < length xs → Put (x ∷ []) n xs (set xs n x) (n + 1)
-put_one x n xs h = record { next = refl; front = λ l. take_more_set xs n x h; rest = λ l. drop-set-lt (n + 1) xs n x (omega arith) }
-
-pub put-past : (x : Transfer) (n : ℕ) (xs : List Transfer) → length xs ≤ n → Put (x ∷ []) n xs xs (n + 1)
-put-past x n xs h = record { next = refl; front = λ l. absurd (omega arith); rest = λ l. absurd (omega arith) }
-
--- a transfer that is not empty, to another rank
-pub put-between : (m : PlanModel) (t f r n k : ℕ) (x : Transfer) (old new : List Transfer) → x ≡ transfer_of m t f r → (f ≡ r → ⊥) → (x.piece.len ≡ 0 → ⊥) → Put (x ∷ []) n old new k → Put (between m t f r) n old new k
-put-between m t f r n k x old new e ne some p =
-    let is = between_is m t f r ne (λ z. some (ap (λ y. y.piece.len) e ∙ z)) in
-    subst (λ ys. Put ys n old new k) (ap (λ y. y ∷ []) e ∙ sym is) p

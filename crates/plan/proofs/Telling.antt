@@ -1,10 +1,10 @@
 -- What an answer about a rank says.
-use Rattle.std.proofs.Common.{◌≡◌, ℕ, suc, ◌<◌, ◌≤◌, ltb, Ok, Err, Result, ap, ◌∙◌, ap₂, ⊎_elim, arith}
+use Rattle.std.proofs.Common.{◌≡◌, ℕ, suc, ◌+◌, ◌<◌, ◌≤◌, ltb, Ok, Err, Result, ap, ◌∙◌, ⊎_elim, add-one, arith}
 use Rattle.std.proofs.lemmas.Bool.{cases_lt, cond-true, cond-false, lt-ltb, le-ltb}
 use Rattle.tile.specs.declared.fault.Fault.{Fault}
-use Rattle.plan.specs.Answers.{asked, told, outside, round_of, span_told, piece_told}
-use Rattle.plan.specs.Model.{PlanModel, piece}
-use Rattle.plan.specs.Runs.{common}
+use Rattle.plan.specs.declared.runs.Run.{Run}
+use Rattle.plan.specs.Answers.{asked, told, outside, round_of, group_told, span_told}
+use Rattle.plan.specs.Model.{PlanModel}
 
 module _ {A : Type 0} (p : PlanModel) (rank : ℕ) where
   pub asked_in : (answer : Result A Fault) → rank < p.ranks → asked p rank answer ≡ answer
@@ -22,14 +22,12 @@ module _ {A : Type 0} (p : PlanModel) (rank : ℕ) where
       (cases_lt rank p.ranks)
 
 module _ (p : PlanModel) where
-  reached : (t : ℕ) → t ≤ p.rounds → round_of p t ≡ t
-  reached t h = omega arith
+  reached : (t u : ℕ) → u ≡ t → t ≤ p.rounds → round_of p u ≡ t
+  reached t u e h = omega arith
 
-  pub span_ok : (t r : ℕ) → t ≤ p.rounds → r < p.ranks → span_told p t r ≡ Ok (p.span t r)
-  span_ok t r ht hr = asked_in p r (Ok (p.span (round_of p t) r)) hr ∙ ap (λ u. Ok (p.span u r)) (reached t ht)
+  -- what was told of the next round
+  pub next_group : (t r : ℕ) (s : Run) → t < p.rounds → Ok s ≡ group_told p (t + 1) r → (r < p.ranks) × (s ≡ p.group (suc t) r)
+  next_group t r s ht e = let k = told_ok p r (p.group (round_of p (t + 1)) r) s e in (k.0, k.1 ∙ ap (λ u. p.group u r) (reached (suc t) (t + 1) (add-one t) (omega arith)))
 
-  pub piece_ok : (t f r : ℕ) → t < p.rounds → f < p.ranks → r < p.ranks → piece_told p t f r ≡ Ok (piece p t f r)
-  piece_ok t f r ht hf hr =
-      asked_in p f (told p r (common (p.span (round_of p t) f) (p.span (round_of p (suc t)) r))) hf
-      ∙ asked_in p r (Ok (common (p.span (round_of p t) f) (p.span (round_of p (suc t)) r))) hr
-      ∙ ap₂ (λ u v. Ok (common (p.span u f) (p.span v r))) (reached t (omega arith)) (reached (suc t) (omega arith))
+  pub next_span : (t r : ℕ) (s : Run) → t < p.rounds → Ok s ≡ span_told p (t + 1) r → (r < p.ranks) × (s ≡ p.span (suc t) r)
+  next_span t r s ht e = let k = told_ok p r (p.span (round_of p (t + 1)) r) s e in (k.0, k.1 ∙ ap (λ u. p.span u r) (reached (suc t) (t + 1) (add-one t) (omega arith)))

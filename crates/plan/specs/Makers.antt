@@ -14,15 +14,15 @@ use Rattle.plan.specs.SwapRules.{swap_model}
 
 -- the factors that count
 abbrev pub factors_of : RadixPlan → List ℕ
-factors_of p = take p.rounds p.factors
+factors_of p = take p.factors.count p.factors.values
 
 -- what a radix plan stands for
 abbrev pub radix_of : RadixPlan → PlanModel
-radix_of p = radix_model p.ranks p.pixels (factors_of p) p.limits p.suits
+radix_of p = radix_model p.counts.ranks p.counts.pixels (factors_of p) p.counts.limits p.suits
 
 -- what a 2-3 plan stands for
 abbrev pub swap_of : SwapPlan → PlanModel
-swap_of p = swap_model p.ranks p.pixels p.limits
+swap_of p = swap_model p.counts.ranks p.counts.pixels p.counts.limits
 
 -- the radix plan of R ranks, P pixels and factors ks
 pub record IsRadix (R P : ℕ) (ks : List ℕ) (p : PlanModel) : Type 0 where

@@ -1,5 +1,6 @@
 -- All transfers in the order in which they are written, and how they are written into an area. Assumes nothing.
 use Rattle.std.specs.Prelude.{◌≡◌, ℕ, zero, suc, ◌+◌, ◌≤◌, cond, List, [], ◌∷◌, ◌++◌, length, take, drop, ◌==◌}
+use Rattle.plan.specs.declared.listing.Listing.{Listing}
 use Rattle.plan.specs.declared.transfer.Transfer.{Transfer}
 use Rattle.plan.specs.Model.{PlanModel}
 use Rattle.plan.specs.Transfers.{transfer_of, Lists}
@@ -34,6 +35,12 @@ pub record Put (ys : List Transfer) (n : ℕ) (old new : List Transfer) (k : ℕ
   pub next : k ≡ n + length ys
   pub front : k ≤ length old → take k new ≡ take n old ++ ys
   pub rest : k ≤ length old → drop k new ≡ drop k old
+
+-- ys goes behind what is listed already, in the same area
+pub record Adds (ys : List Transfer) (old new : Listing) : Type 0 where
+  pub same_area : new.area.ghost_name ≡ old.area.ghost_name
+  pub same_length : length new.area.now ≡ length old.area.now
+  pub put : Put ys old.count old.area.now new.area.now new.count
 
 -- all transfers are in the first n entries, if the area has so many, and no list of them is shorter
 pub record Wrote (p : PlanModel) (old new : List Transfer) (n : ℕ) : Type 0 where

@@ -5,24 +5,20 @@ use Rattle.std.proofs.Common.{ap₂, ◌∙◌, ⊎_elim, div-mul-le_self, mul-l
 use native.Mathlib.Omega.{arith}
 use Rattle.std.proofs.Math.Nat.{lt-div-mul-add, div-eq_of_lt-le, div-div-eq-div-mul, mul_comm, div-eq_of_lt, mod-lt, mod-eq_of_lt, mod-one}
 use Rattle.std.proofs.Math.Arith.{mod-mul, digits_div, digits_mod, digits_lt}
+use Rattle.std.proofs.lemmas.Bool.{cases_lt}
+use Rattle.std.proofs.lemmas.List.{get_or_past}
 use Rattle.plan.specs.declared.runs.Run.{Run}
 use Rattle.plan.specs.Factors.{product, factor, Each, Suits, width}
 use Rattle.plan.specs.Model.{Limits, PlanModel}
 use Rattle.plan.specs.Radix.{digit, group, part, span}
 use Rattle.plan.specs.Runs.{run_of, In, cut}
-use Rattle.plan.specs.Shares.{order, part_of, cut_all, cut_up, lies_in_one, lies_once, part-below}
-
--- past the last factor
-past : (ks : List ℕ) (t : ℕ) → length ks ≤ t → factor ks t ≡ 1
-past [] t h = refl
-past (k ∷ ks) zero h = absurd (omega arith)
-past (k ∷ ks) (suc t) h = past ks t (omega arith)
+use Rattle.plan.specs.Shares.{part_of, cut_all, cut_up, lies_in_one, lies_once, part-below}
 
 pub factor_pos : (ks : List ℕ) → Each ks → (t : ℕ) → 0 < factor ks t
-factor_pos ks e t = ⊎_elim (λ (h : t < length ks). let b = e t h in omega arith) (λ (h : length ks ≤ t). let b = past ks t h in omega arith) (order t (length ks))
+factor_pos ks e t = ⊎_elim (λ (h : t < length ks). let b = e t h in omega arith) (λ (h : length ks ≤ t). let b = get_or_past ks t 1 h in omega arith) (cases_lt t (length ks))
 
 -- the first factor taken out of a width
-ahead : (k : ℕ) (ks : List ℕ) (t : ℕ) → width (factor (k ∷ ks)) (suc t) ≡ k * width (factor ks) t
+pub ahead : (k : ℕ) (ks : List ℕ) (t : ℕ) → width (factor (k ∷ ks)) (suc t) ≡ k * width (factor ks) t
 ahead k ks zero = one-mul k ∙ sym (mul-one k)
 ahead k ks (suc t) = ap (λ w. w * factor ks t) (ahead k ks t) ∙ mul_assoc k (width (factor ks) t) (factor ks t)
 

@@ -1,16 +1,9 @@
 -- Of p positions shared out in n parts each lies in exactly one. Assumes nothing.
-use Rattle.std.specs.Prelude.{◌≡◌, ℕ, ◌+◌, ◌-◌, ◌*◌, ◌/◌, ◌<◌, ◌≤◌, Bool, true, false, ◌⊎◌, nat_lt, refl}
-use Rattle.std.proofs.Common.{ap, ◌∙◌, arith, le-div_iff_mul-le, div-lt_iff_lt-mul, mul-le-mul_right, mul_comm, mul-div_cancel, div-mul-le_self, zero-mul, le_refl, ⊎_elim, inl, inr, ltb-true, ltb-false}
+use Rattle.std.specs.Prelude.{◌≡◌, ℕ, ◌+◌, ◌-◌, ◌*◌, ◌/◌, ◌<◌, ◌≤◌}
+use Rattle.std.proofs.Common.{ap, ◌∙◌, arith, le-div_iff_mul-le, div-lt_iff_lt-mul, mul-le-mul_right, mul_comm, mul-div_cancel, div-mul-le_self, zero-mul, le_refl, ⊎_elim}
 use Rattle.std.proofs.Math.Nat.{zero-div}
+use Rattle.std.proofs.lemmas.Bool.{cases_lt}
 use Rattle.plan.specs.Runs.{cut}
-
--- a number is below another, or it is not
-pub order : (m n : ℕ) → (m < n) ⊎ (n ≤ m)
-order m n = by_test (nat_lt m n) refl
-  where
-    by_test : (y : Bool) → nat_lt m n ≡ y → (m < n) ⊎ (n ≤ m)
-    by_test true e = inl (ltb-true m n e)
-    by_test false e = inr (ltb-false m n e)
 
 -- the part that position x lies in
 abbrev pub part_of : ℕ → ℕ → ℕ → ℕ
@@ -52,13 +45,13 @@ module _ (p n : ℕ) (some : 0 < n) where
   pub lies_in_one : (x : ℕ) → x < p → Lies (part_of p n x) x
   lies_in_one x h =
       let pos : 0 < p = omega arith in
-      (from-part (part_of p n x) x pos (le_refl (part_of p n x)), ⊎_elim (λ d. d) (λ d. absurd (let past = part-from (part_of p n x + 1) x pos d in omega arith)) (order x (cut p n (part_of p n x + 1))))
+      (from-part (part_of p n x) x pos (le_refl (part_of p n x)), ⊎_elim (λ d. d) (λ d. absurd (let past = part-from (part_of p n x + 1) x pos d in omega arith)) (cases_lt x (cut p n (part_of p n x + 1))))
 
   pub lies_once : (j x : ℕ) → x < p → Lies j x → j ≡ part_of p n x
   lies_once j x h l =
       let pos : 0 < p = omega arith in
       let up = part-from j x pos l.0 in
-      ⊎_elim (λ d. absurd (let past = from-part (j + 1) x pos (omega arith) in omega arith)) (λ d. omega arith) (order j (part_of p n x))
+      ⊎_elim (λ d. absurd (let past = from-part (j + 1) x pos (omega arith) in omega arith)) (λ d. omega arith) (cases_lt j (part_of p n x))
 
   pub part-below : (x : ℕ) → x < p → part_of p n x < n
   part-below x h =

@@ -2,10 +2,10 @@
 use Rattle.std.specs.Prelude.{◌≡◌, ℕ, zero, suc, ◌+◌, ◌-◌, ◌*◌, ◌/◌, ◌^◌, ◌<◌, ◌≤◌, cond, ◌==◌}
 use Rattle.std.proofs.Common.{sym, ap, ap₂, subst, ◌∙◌, ⊎_elim, arith, le-div_iff_mul-le, div-mul-le_self, mul-le-mul_right, div-one, mul-one, add-mul, mul_assoc, mul_comm, pow-suc, zero-mul, pow_pos, pow_mono, eq-eqb, ne_eqb, le-leb}
 use Rattle.std.proofs.Math.Nat.{lt-div-mul-add, div-eq_of_lt-le, div-div-eq-div-mul, min-le_left}
-use Rattle.std.proofs.lemmas.Bool.{lt-leb}
+use Rattle.std.proofs.lemmas.Bool.{lt-leb, cases_lt}
 use Rattle.plan.specs.Model.{Limits, PlanModel}
 use Rattle.plan.specs.Runs.{run_of, In, cut}
-use Rattle.plan.specs.Shares.{order, part_of, cut-none, cut_all, cut_up, lies_in_one, lies_once, part-below}
+use Rattle.plan.specs.Shares.{part_of, cut-none, cut_all, cut_up, lies_in_one, lies_once, part-below}
 use Rattle.plan.specs.Swap.{top, index, start, size, group_by, group, span}
 
 module _ (R w : ℕ) (pos : 0 < w) (fits : w ≤ R) where
@@ -28,7 +28,7 @@ module _ (R w : ℕ) (pos : 0 < w) (fits : w ≤ R) where
       (λ (h : R / w ≤ r / w + 1).
       let e : index R w r + 1 ≡ R / w = omega arith in
       late e h (rw (eq-eqb (index R w r + 1) (R / w) e)))
-      (order (r / w + 1) (R / w))
+      (cases_lt (r / w + 1) (R / w))
 
   start_le : (r : ℕ) → start R w r ≤ r
   start_le r =
@@ -123,10 +123,10 @@ all_in_one R w pos fits under r h =
       ],
     )
 
-top_le : (n R : ℕ) → 1 ≤ R → 2 ^ top n R ≤ R
+pub top_le : (n R : ℕ) → 1 ≤ R → 2 ^ top n R ≤ R
 top_le zero R h = h
 top_le (suc n) R h =
-    ⊎_elim (λ (k : R < 2 ^ suc n). rw (lt-leb (2 ^ suc n) R k) (top_le n R h)) (λ (k : 2 ^ suc n ≤ R). rw (le-leb (2 ^ suc n) R k) k) (order R (2 ^ suc n))
+    ⊎_elim (λ (k : R < 2 ^ suc n). rw (lt-leb (2 ^ suc n) R k) (top_le n R h)) (λ (k : 2 ^ suc n ≤ R). rw (le-leb (2 ^ suc n) R k) k) (cases_lt R (2 ^ suc n))
 
 pub top-few : (n R : ℕ) → top n R ≤ n
 top-few zero R = omega arith
@@ -134,12 +134,12 @@ top-few (suc n) R =
     ⊎_elim
     (λ (k : R < 2 ^ suc n). rw (lt-leb (2 ^ suc n) R k) (let ih = top-few n R in omega arith))
     (λ (k : 2 ^ suc n ≤ R). rw (le-leb (2 ^ suc n) R k) (omega arith))
-    (order R (2 ^ suc n))
+    (cases_lt R (2 ^ suc n))
 
-top_lt : (n R : ℕ) → R < 2 ^ suc n → R < 2 ^ suc (top n R)
+pub top_lt : (n R : ℕ) → R < 2 ^ suc n → R < 2 ^ suc (top n R)
 top_lt zero R h = h
 top_lt (suc n) R h =
-    ⊎_elim (λ (k : R < 2 ^ suc n). rw (lt-leb (2 ^ suc n) R k) (top_lt n R k)) (λ (k : 2 ^ suc n ≤ R). rw (le-leb (2 ^ suc n) R k) h) (order R (2 ^ suc n))
+    ⊎_elim (λ (k : R < 2 ^ suc n). rw (lt-leb (2 ^ suc n) R k) (top_lt n R k)) (λ (k : 2 ^ suc n ≤ R). rw (le-leb (2 ^ suc n) R k) h) (cases_lt R (2 ^ suc n))
 
 -- the place of rank r among its group's members
 abbrev place : ℕ → ℕ → ℕ → ℕ

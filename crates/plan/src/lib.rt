@@ -1,15 +1,17 @@
 // Plans: who merges what with whom, round by round.
 #![tactic(auto)]
 
+mod counts;
 pub mod examples;
-mod limits;
-mod parts;
+mod factors;
+mod listing;
 pub mod pieces;
 pub mod plan;
 pub mod radix;
 pub mod radix_plan;
 pub mod runs;
 pub mod sending;
+mod step;
 pub mod swap;
 pub mod swap_plan;
 #[cfg(test)]

@@ -12,9 +12,7 @@ pub fn common(a: Run, b: Run) -> Run
     ensures { result ≡ common a b }
 {
     let start = a.start.max(b.start);
-    let first_end = u64::from(a.start) + u64::from(a.len);
-    let second_end = u64::from(b.start) + u64::from(b.len);
-    let end = first_end.min(second_end);
+    let end = a.end().min(b.end());
     let len = end.saturating_sub(u64::from(start)) as u32;
     Run { start, len }
 }

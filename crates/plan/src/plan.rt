@@ -1,10 +1,10 @@
 // What a plan answers.
 ghost use Rattle.std.specs.Prelude.{◌≡◌};
-ghost use Rattle.plan.specs.Answers.{group_told, span_told, outside};
+ghost use Rattle.plan.specs.Answers.{group_told, span_told};
 ghost use Rattle.plan.specs.Model.{PlanModel};
 
 use crate::runs::Run;
-use tile::fault::{Fault, Ground};
+use tile::fault::Fault;
 
 // For each round and rank, who merges and what the rank then holds.
 pub trait Plan {
@@ -30,14 +30,4 @@ pub trait Plan {
     // The pixels that the rank holds in the round; a round above the last answers as the last.
     fn span(&self, round: u32, rank: u32) -> Result<Run, Fault>
         ensures { result ≡ span_told (model self.now) round rank };
-}
-
-// The refusal of a rank that the plan does not have.
-pub(crate) fn outside(rank: u32) -> Fault
-    ensures { result ≡ outside rank }
-{
-    Fault::Call {
-        ground: Ground::Outside,
-        rank,
-    }
 }

@@ -19,25 +19,24 @@ const UNUSED: Transfer = Transfer {
 #[test]
 fn radix_plan_of_twos(rt: HostRuntime) -> Result<(), Fail> {
     let plan = RadixPlan::new(4, 10, &[2, 2])?;
-    let last = plan.span(2, 3)?;
-    assert!(rt; last.start == 7 && last.len == 3);
-    assert!(rt; sends(&plan, 0)? == 8);
-    assert!(rt; sends(&plan, 2)? == 7);
+    assert_eq!(rt; plan.span(2, 3)?, Run { start: 7, len: 3 });
+    assert_eq!(rt; sends(&plan, 0)?, 8);
+    assert_eq!(rt; sends(&plan, 2)?, 7);
     let mut area = [UNUSED; 9];
     assert!(rt; list_transfers(&plan, &mut area[..7]).is_err());
-    assert!(rt; list_transfers(&plan, &mut area)? == 8);
-    assert!(rt; area[7].round == 2 && area[8].round == 0);
+    assert_eq!(rt; list_transfers(&plan, &mut area)?, 8);
+    assert_eq!(rt; area[7].round, 2);
+    assert_eq!(rt; area[8], UNUSED);
     Ok(())
 }
 
 #[test]
 fn swap_plan_with_ranks_left_over(rt: HostRuntime) -> Result<(), Fail> {
     let plan = SwapPlan::new(5, 10)?;
-    let group = plan.group(1, 4)?;
-    assert!(rt; group.start == 2 && group.len == 3);
-    assert!(rt; sends(&plan, 2)? == 10);
-    assert!(rt; sends(&plan, 4)? == 8);
-    assert!(rt; plan.span(9, 4)?.start == 8);
+    assert_eq!(rt; plan.group(1, 4)?, Run { start: 2, len: 3 });
+    assert_eq!(rt; sends(&plan, 2)?, 10);
+    assert_eq!(rt; sends(&plan, 4)?, 8);
+    assert_eq!(rt; plan.span(9, 4)?.start, 8);
     Ok(())
 }
 

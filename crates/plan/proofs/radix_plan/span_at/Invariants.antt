@@ -1,9 +1,0 @@
-use Rattle.std.proofs.Common.{◌≡◌}
-use Rattle.plan.specs.Factors.{factor, width}
-use Rattle.plan.specs.Radix.{span}
-use Rattle.plan.specs.Runs.{run_of}
-use Rattle.plan.specs.Makers.{factors_of}
-use Rattle.plan.proofs.radix_plan.span_at.Given as goal
-
-abbrev pub invariant-loop-i : goal.invariant-loop-i
-invariant-loop-i l = (l.width ≡ width (factor (factors_of l.plan)) l.i) × (run_of l.start l.len ≡ span (factor (factors_of l.plan)) l.plan.pixels l.i l.rank)
