@@ -1,2 +1,3 @@
 mod Cuts
 mod Decimals
+mod Names
