@@ -3,7 +3,9 @@ use Rattle.std.proofs.Common.{◌≡◌, ℕ, zero, suc, ◌+◌, ◌*◌, ◌%�
 use Rattle.std.proofs.lemmas.List.{drop_more, drop_all, append-nil}
 use Rattle.std.proofs.lemmas.Bool.{cond-true, cond-false}
 use Rattle.std.proofs.lemmas.Bool.Decides.{nat_tests}
-use Rattle.console.specs.Hex.{digit, digits_in, is_space, paired, put_front, readable}
+use Rattle.console.specs.Hex.{digit, digits_in, paired, readable}
+use Rattle.request.specs.Numbers.{put_front}
+use Rattle.request.specs.Words.{is_space}
 
 -- what was read, before what is still to be read
 abbrev pub prepend : List ℕ → Option (List ℕ) → Option (List ℕ)
@@ -59,11 +61,7 @@ odd_digits (a ∷ []) h = refl
 odd_digits (a ∷ b ∷ ds) h = ap (put_front (Some (a * 16 + b))) (odd_digits ds (λ e. h (omega arith)))
 
 -- one pair more
-pub pair_more : (ds xs : List ℕ) (i : ℕ) → 2 * i + 1 < length ds → paired ds ≡ prepend xs (paired (drop (2 * i) ds)) → paired ds ≡ prepend (xs ++ (get_or ds (2 * i) 0 * 16 + get_or ds (2 * i + 1) 0) ∷ []) (paired (drop (2 * (i + 1)) ds))
-pair_more ds xs i h inv =
-    let two : 2 * i + 1 + 1 ≡ 2 * (i + 1) = omega arith in
-    let here = drop_more ds (2 * i) 0 (omega arith) ∙ ap (λ l. get_or ds (2 * i) 0 ∷ l) (drop_more ds (2 * i + 1) 0 h ∙ ap (λ n. get_or ds (2 * i + 1) 0 ∷ drop n ds) two) in
-    inv ∙ ap (λ l. prepend xs (paired l)) here ∙ prepend-more xs (get_or ds (2 * i) 0 * 16 + get_or ds (2 * i + 1) 0) (paired (drop (2 * (i + 1)) ds))
-
-pub all-paired : (ds xs : List ℕ) (i : ℕ) → length ds ≡ 2 * i → paired ds ≡ prepend xs (paired (drop (2 * i) ds)) → paired ds ≡ Some xs
-all-paired ds xs i e inv = inv ∙ ap (λ l. prepend xs (paired l)) (drop_all (2 * i) ds (omega arith)) ∙ ap Some (append-nil xs)
+pub pair_more : (ds xs pair left rest ys : List ℕ) → length pair ≡ 2 → left ≡ pair ++ rest → paired ds ≡ prepend xs (paired left) → ys ≡ xs ++ (get_or pair 0 0 * 16 + get_or pair 1 0) ∷ [] → paired ds ≡ prepend ys (paired rest)
+pair_more ds xs (a ∷ b ∷ []) left rest ys two at inv push =
+    inv ∙ ap (λ l. prepend xs (paired l)) at ∙ prepend-more xs (a * 16 + b) (paired rest) ∙ ap (λ l. prepend l (paired rest)) (sym push)
+pair_more ds xs pair left rest ys two at inv push = absurd (omega arith)
