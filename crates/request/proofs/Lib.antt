@@ -1,3 +1,3 @@
 mod Cuts
-mod Decimals
+pub mod Decimals
 mod Names

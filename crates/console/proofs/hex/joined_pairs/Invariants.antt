@@ -1,7 +1,7 @@
 use Rattle.std.proofs.Common.{◌≡◌, ◌%◌, length, vec_items}
 use Rattle.std.specs.Slice.Iter.{chunks_exact_rest, chunks_exact_size}
 use Rattle.console.specs.Hex.{paired}
-use Rattle.console.proofs.Texts.{prepend}
+use Rattle.request.proofs.Decimals.{prepend}
 use Rattle.console.proofs.hex.joined_pairs.Given as goal
 
 abbrev pub invariant-loop-pair : goal.invariant-loop-pair
