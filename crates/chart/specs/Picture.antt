@@ -1,6 +1,14 @@
 -- A plan's picture in SVG: where its parts lie, and how they are written. Assumes nothing.
 use Rattle.std.specs.Prelude.{ℕ, ◌+◌, ◌*◌, ◌/◌, max, List, ◌++◌, codes, decimal}
 
+-- how wide a column is
+abbrev pub column_width : ℕ
+column_width = 160
+
+-- how high a row is
+abbrev pub row_height : ℕ
+row_height = 14
+
 -- where the column of a round begins
 abbrev pub column_left : ℕ → ℕ
 column_left round = 70 + round * 260
@@ -9,9 +17,9 @@ column_left round = 70 + round * 260
 abbrev pub row_top : ℕ → ℕ
 row_top rank = 40 + rank * 24
 
--- how far into a column of 160 a pixel lies
+-- how far into a column a pixel lies
 abbrev pub across : ℕ → ℕ → ℕ
-across pixel pixels = pixel * 160 / max pixels 1
+across pixel pixels = pixel * column_width / max pixels 1
 
 -- the picture's beginning, on white
 abbrev pub picture_head : ℕ → ℕ → List ℕ
@@ -24,11 +32,11 @@ label x y word number = codes "<text x='" ++ (decimal x ++ (codes "' y='" ++ (de
 
 -- the bar of a span
 abbrev pub bar : ℕ → ℕ → ℕ → List ℕ
-bar x y width = codes "<rect x='" ++ (decimal x ++ (codes "' y='" ++ (decimal y ++ (codes "' width='" ++ (decimal width ++ codes "' height='14' fill='#3b6ea5'/>\n")))))
+bar x y width = codes "<rect x='" ++ (decimal x ++ (codes "' y='" ++ (decimal y ++ (codes "' width='" ++ (decimal width ++ (codes "' height='" ++ (decimal row_height ++ codes "' fill='#3b6ea5'/>\n")))))))
 
 -- the frame of the whole tile
 abbrev pub frame : ℕ → ℕ → List ℕ
-frame x y = codes "<rect x='" ++ (decimal x ++ (codes "' y='" ++ (decimal y ++ codes "' width='160' height='14' fill='none' stroke='#bbb'/>\n")))
+frame x y = codes "<rect x='" ++ (decimal x ++ (codes "' y='" ++ (decimal y ++ (codes "' width='" ++ (decimal column_width ++ (codes "' height='" ++ (decimal row_height ++ codes "' fill='none' stroke='#bbb'/>\n")))))))
 
 -- the line of a transfer
 abbrev pub stroke : ℕ → ℕ → ℕ → ℕ → List ℕ

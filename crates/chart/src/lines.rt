@@ -1,51 +1,82 @@
 // The lines that tell a plan.
-ghost use Rattle.std.specs.Prelude.{◌≡◌, IfOk, string_bytes};
+ghost use Rattle.std.specs.Prelude.{Some};
 ghost use Rattle.chart.specs.Lines.{plan_line, rank_line, sends_line, transfer_line};
 
 use plan::runs::Run;
 use plan::transfer::Transfer;
-use std::alloc::{AllocError, Global};
+use std::fmt;
 
 // Ranks, pixels and rounds.
-pub fn plan_line(heap: Global, ranks: u32, pixels: u32, rounds: u32) -> Result<String, AllocError>
-    ensures { IfOk result (λ s. string_bytes s ≡ plan_line ranks pixels rounds) }
-{
-    format!(in heap; "plan: ranks {ranks}, pixels {pixels}, rounds {rounds}\n")
+#[derive(Clone, Copy, PartialEq, Eq, Debug)]
+pub struct PlanLine {
+    pub ranks: u32,
+    pub pixels: u32,
+    pub rounds: u32,
+}
+
+impl fmt::Display for PlanLine {
+    ghost output = { λ l. Some (plan_line l.ranks l.pixels l.rounds) };
+
+    fn fmt<W: fmt::Write>(&self, f: &mut fmt::Formatter<W>) -> fmt::Result {
+        let PlanLine {
+            ranks,
+            pixels,
+            rounds,
+        } = *self;
+        writeln!(f, "plan: ranks {ranks}, pixels {pixels}, rounds {rounds}")
+    }
 }
 
 // A rank's group and span in a round.
-pub fn rank_line(
-    heap: Global,
-    round: u32,
-    rank: u32,
-    group: Run,
-    span: Run,
-) -> Result<String, AllocError>
-    ensures { IfOk result (λ s. string_bytes s ≡ rank_line round rank group span) }
-{
-    let (first, size) = (group.start, group.len);
-    let (start, len) = (span.start, span.len);
-    let front = format!(in heap; "round {round} rank {rank}: group {first}+{size}")?;
-    format!(in heap; "{front} span {start}+{len}\n")
+#[derive(Clone, Copy, PartialEq, Eq, Debug)]
+pub struct RankLine {
+    pub round: u32,
+    pub rank: u32,
+    pub group: Run,
+    pub span: Run,
+}
+
+impl fmt::Display for RankLine {
+    ghost output = { λ l. Some (rank_line l.round l.rank l.group l.span) };
+
+    fn fmt<W: fmt::Write>(&self, f: &mut fmt::Formatter<W>) -> fmt::Result {
+        let RankLine {
+            round,
+            rank,
+            group,
+            span,
+        } = *self;
+        writeln!(f, "round {round} rank {rank}: group {group} span {span}")
+    }
 }
 
 // A piece that is sent.
-pub fn transfer_line(heap: Global, transfer: Transfer) -> Result<String, AllocError>
-    ensures { IfOk result (λ s. string_bytes s ≡ transfer_line transfer) }
-{
-    let Transfer {
-        round,
-        sender,
-        receiver,
-        piece,
-    } = transfer;
-    let (start, len) = (piece.start, piece.len);
-    format!(in heap; "transfer round {round}: {sender} -> {receiver} {start}+{len}\n")
+#[derive(Clone, Copy, PartialEq, Eq, Debug)]
+pub struct TransferLine {
+    pub transfer: Transfer,
+}
+
+impl fmt::Display for TransferLine {
+    ghost output = { λ l. Some (transfer_line l.transfer) };
+
+    fn fmt<W: fmt::Write>(&self, f: &mut fmt::Formatter<W>) -> fmt::Result {
+        let TransferLine { transfer } = *self;
+        writeln!(f, "transfer {transfer}")
+    }
 }
 
 // How many pixels a rank sends in all.
-pub fn sends_line(heap: Global, rank: u32, pixels: u32) -> Result<String, AllocError>
-    ensures { IfOk result (λ s. string_bytes s ≡ sends_line rank pixels) }
-{
-    format!(in heap; "rank {rank} sends {pixels}\n")
+#[derive(Clone, Copy, PartialEq, Eq, Debug)]
+pub struct SendsLine {
+    pub rank: u32,
+    pub pixels: u32,
+}
+
+impl fmt::Display for SendsLine {
+    ghost output = { λ l. Some (sends_line l.rank l.pixels) };
+
+    fn fmt<W: fmt::Write>(&self, f: &mut fmt::Formatter<W>) -> fmt::Result {
+        let SendsLine { rank, pixels } = *self;
+        writeln!(f, "rank {rank} sends {pixels}")
+    }
 }

@@ -1,7 +1,7 @@
 // Shows plans as lines or as a picture.
-use chart::lines::{plan_line, rank_line, sends_line, transfer_line};
+use chart::lines::{PlanLine, RankLine, SendsLine, TransferLine};
 use chart::picture::{
-    COLUMN, EDGE, ROW, across, bar, column_left, frame, label, picture_head, row_top, stroke,
+    Bar, COLUMN, EDGE, Frame, Label, PictureHead, Point, ROW, Stroke, across, column_left, row_top,
 };
 use plan::plan::Plan;
 use plan::radix::RadixPlan;
@@ -33,7 +33,12 @@ const UNWRITTEN: Transfer = Transfer {
 fn show_round<P: Plan>(rt: &HostRuntime, plan: &P, round: u32) -> anyhow::Result<()> {
     for rank in 0..plan.ranks() {
         if let (Ok(group), Ok(span)) = (plan.group(round, rank), plan.span(round, rank)) {
-            rt.print(rank_line(rt.alloc(), round, rank, group, span)?)?;
+            rt.print(RankLine {
+                round,
+                rank,
+                group,
+                span,
+            })?;
         }
     }
     Ok(())
@@ -41,20 +46,24 @@ fn show_round<P: Plan>(rt: &HostRuntime, plan: &P, round: u32) -> anyhow::Result
 
 // A bar for each rank in a round.
 fn draw_round<P: Plan>(rt: &HostRuntime, plan: &P, round: u32) -> anyhow::Result<()> {
-    let heap = rt.alloc();
     let left = column_left(round);
     let pixels = plan.pixels();
-    rt.print(label(heap, left, 24, "round", round)?)?;
+    rt.print(Label {
+        start: Point { x: left, y: 24 },
+        word: "round",
+        number: round,
+    })?;
     for rank in 0..plan.ranks() {
         if let Ok(span) = plan.span(round, rank) {
-            let top = row_top(rank);
-            rt.print(frame(heap, left, top)?)?;
-            rt.print(bar(
-                heap,
-                left + across(span.start, pixels),
-                top,
-                across(span.len, pixels),
-            )?)?;
+            let y = row_top(rank);
+            rt.print(Frame {
+                corner: Point { x: left, y },
+            })?;
+            let x = left + across(span.start, pixels);
+            rt.print(Bar {
+                corner: Point { x, y },
+                width: across(span.len, pixels),
+            })?;
         }
     }
     Ok(())
@@ -73,7 +82,7 @@ fn transfers_of<P: Plan>(rt: &HostRuntime, plan: &P) -> anyhow::Result<Vec<Trans
 fn show_sends<P: Plan>(rt: &HostRuntime, plan: &P) -> anyhow::Result<()> {
     for rank in 0..plan.ranks() {
         if let Ok(pixels) = sends(plan, rank) {
-            rt.print(sends_line(rt.alloc(), rank, pixels)?)?;
+            rt.print(SendsLine { rank, pixels })?;
         }
     }
     Ok(())
@@ -81,14 +90,19 @@ fn show_sends<P: Plan>(rt: &HostRuntime, plan: &P) -> anyhow::Result<()> {
 
 // The plan as lines.
 fn show_lines<P: Plan>(rt: &HostRuntime, plan: &P) -> anyhow::Result<()> {
-    let heap = rt.alloc();
     let rounds = plan.rounds();
-    rt.print(plan_line(heap, plan.ranks(), plan.pixels(), rounds)?)?;
+    rt.print(PlanLine {
+        ranks: plan.ranks(),
+        pixels: plan.pixels(),
+        rounds,
+    })?;
     for round in 0..=rounds {
         show_round(rt, plan, round)?;
     }
     for transfer in transfers_of(rt, plan)?.iter() {
-        rt.print(transfer_line(heap, *transfer)?)?;
+        rt.print(TransferLine {
+            transfer: *transfer,
+        })?;
     }
     show_sends(rt, plan)
 }
@@ -96,11 +110,15 @@ fn show_lines<P: Plan>(rt: &HostRuntime, plan: &P) -> anyhow::Result<()> {
 // The lines between the columns of a picture.
 fn draw_transfers<P: Plan>(rt: &HostRuntime, plan: &P) -> anyhow::Result<()> {
     for transfer in transfers_of(rt, plan)?.iter() {
-        let left = column_left(transfer.round.saturating_sub(1)) + COLUMN;
-        let right = column_left(transfer.round);
-        let from = row_top(transfer.sender) + ROW / 2;
-        let to = row_top(transfer.receiver) + ROW / 2;
-        rt.print(stroke(rt.alloc(), left, from, right, to)?)?;
+        let start = Point {
+            x: column_left(transfer.round.saturating_sub(1)) + COLUMN,
+            y: row_top(transfer.sender) + ROW / 2,
+        };
+        let end = Point {
+            x: column_left(transfer.round),
+            y: row_top(transfer.receiver) + ROW / 2,
+        };
+        rt.print(Stroke { start, end })?;
     }
     Ok(())
 }
@@ -108,7 +126,14 @@ fn draw_transfers<P: Plan>(rt: &HostRuntime, plan: &P) -> anyhow::Result<()> {
 // The names of the ranks before their rows.
 fn draw_ranks<P: Plan>(rt: &HostRuntime, plan: &P) -> anyhow::Result<()> {
     for rank in 0..plan.ranks() {
-        rt.print(label(rt.alloc(), 14, row_top(rank) + 11, "rank", rank)?)?;
+        rt.print(Label {
+            start: Point {
+                x: 14,
+                y: row_top(rank) + 11,
+            },
+            word: "rank",
+            number: rank,
+        })?;
     }
     Ok(())
 }
@@ -117,7 +142,8 @@ fn draw_ranks<P: Plan>(rt: &HostRuntime, plan: &P) -> anyhow::Result<()> {
 fn show_picture<P: Plan>(rt: &HostRuntime, plan: &P) -> anyhow::Result<()> {
     let rounds = plan.rounds();
     let width = column_left(rounds) + COLUMN + EDGE;
-    rt.print(picture_head(rt.alloc(), width, row_top(plan.ranks()) + ROW)?)?;
+    let height = row_top(plan.ranks()) + ROW;
+    rt.print(PictureHead { width, height })?;
     draw_ranks(rt, plan)?;
     for round in 0..=rounds {
         draw_round(rt, plan, round)?;
@@ -144,7 +170,7 @@ fn answer_plan(rt: &HostRuntime, form: Form, line: &[u8]) -> anyhow::Result<()> 
     let Some(asked) = plan_request(rt.alloc(), line)? else {
         return Ok(rt.print("no plan request: write 'swap R P' or 'radix R P K..'\n")?);
     };
-    match (asked.maker, asked.numbers.as_slice()) {
+    match (asked.call, asked.numbers.as_slice()) {
         (Maker::Swap, [ranks, pixels]) => show_made(rt, form, SwapPlan::new(*ranks, *pixels)),
         (Maker::Radix, [ranks, pixels, factors @ ..]) => show_made(
             rt,

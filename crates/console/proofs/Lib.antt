@@ -1,2 +1,3 @@
 mod Texts
 mod Lines
+mod Unasked

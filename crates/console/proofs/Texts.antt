@@ -1,19 +1,14 @@
 -- Digits read one by one. Assumes nothing.
 use Rattle.std.proofs.Common.{◌≡◌, ℕ, zero, suc, ◌+◌, ◌*◌, ◌%◌, ◌<◌, Bool, true, false, cond, ◌||◌, List, [], ◌∷◌, ◌++◌, length, get_or, drop, is_some, Some, None, Option, sym, refl, ap, ◌∙◌, append_assoc, arith}
-use Rattle.std.proofs.lemmas.List.{drop_more, drop_all, append-nil}
+use Rattle.std.proofs.lemmas.List.{drop_more}
 use Rattle.std.proofs.lemmas.Bool.{cond-true, cond-false}
 use Rattle.std.proofs.lemmas.Bool.Decides.{nat_tests}
-use Rattle.console.specs.Hex.{digit, digits_in, is_space, paired, put_front, readable}
+use Rattle.console.specs.Hex.{digit, digits_in, paired, readable}
+use Rattle.request.specs.Numbers.{put_front}
+use Rattle.request.specs.Words.{is_space}
+use Rattle.request.proofs.Decimals.{prepend}
 
--- what was read, before what is still to be read
-abbrev pub prepend : List ℕ → Option (List ℕ) → Option (List ℕ)
-prepend xs None = None
-prepend xs (Some ys) = Some (xs ++ ys)
-
-pub prepend-none : (o : Option (List ℕ)) → o ≡ prepend [] o
-prepend-none None = refl
-prepend-none (Some ys) = refl
-
+-- one value more was read
 pub prepend-more : (xs : List ℕ) (x : ℕ) (o : Option (List ℕ)) → prepend xs (put_front (Some x) o) ≡ prepend (xs ++ x ∷ []) o
 prepend-more xs x None = refl
 prepend-more xs x (Some ys) = ap Some (sym (append_assoc xs (x ∷ []) ys))
@@ -27,9 +22,6 @@ module _ (text : List ℕ) (i : ℕ) (below : i < length text) where
 
   pub digit-more : (xs : List ℕ) (d : ℕ) → is_space (get_or text i 0) ≡ false → digit (get_or text i 0) ≡ Some d → digits_in text ≡ prepend xs (digits_in (drop i text)) → digits_in text ≡ prepend (xs ++ d ∷ []) (digits_in (drop (i + 1) text))
   digit-more xs d e is inv = inv ∙ ap (prepend xs) (here ∙ cond-false _ _ _ e ∙ ap (λ o. put_front o (digits_in (drop (i + 1) text))) is) ∙ prepend-more xs d (digits_in (drop (i + 1) text))
-
-pub all_read : (text xs : List ℕ) (i : ℕ) → length text ≡ i → digits_in text ≡ prepend xs (digits_in (drop i text)) → digits_in text ≡ Some xs
-all_read text xs i e inv = inv ∙ ap (λ l. prepend xs (digits_in l)) (drop_all i text (omega arith)) ∙ ap Some (append-nil xs)
 
 pub small-more : (xs : List ℕ) (d : ℕ) → ((k : ℕ) → get_or xs k 0 < 16) → d < 16 → (k : ℕ) → get_or (xs ++ d ∷ []) k 0 < 16
 small-more [] d h s zero = s
@@ -50,20 +42,13 @@ digit-readable c d e = or_right (is_space c) (is_some (digit c)) (ap is_some e)
     or_right true b h = refl
     or_right false b h = h
 
-pub unreadable : (c : ℕ) → is_space c ≡ false → digit c ≡ None → readable c ≡ false
-unreadable c e n = ap (λ b. b || is_some (digit c)) e ∙ ap is_some n
-
 pub odd_digits : (ds : List ℕ) → (length ds % 2 ≡ 0 → ⊥) → paired ds ≡ None
 odd_digits [] h = absurd (h refl)
 odd_digits (a ∷ []) h = refl
 odd_digits (a ∷ b ∷ ds) h = ap (put_front (Some (a * 16 + b))) (odd_digits ds (λ e. h (omega arith)))
 
 -- one pair more
-pub pair_more : (ds xs : List ℕ) (i : ℕ) → 2 * i + 1 < length ds → paired ds ≡ prepend xs (paired (drop (2 * i) ds)) → paired ds ≡ prepend (xs ++ (get_or ds (2 * i) 0 * 16 + get_or ds (2 * i + 1) 0) ∷ []) (paired (drop (2 * (i + 1)) ds))
-pair_more ds xs i h inv =
-    let two : 2 * i + 1 + 1 ≡ 2 * (i + 1) = omega arith in
-    let here = drop_more ds (2 * i) 0 (omega arith) ∙ ap (λ l. get_or ds (2 * i) 0 ∷ l) (drop_more ds (2 * i + 1) 0 h ∙ ap (λ n. get_or ds (2 * i + 1) 0 ∷ drop n ds) two) in
-    inv ∙ ap (λ l. prepend xs (paired l)) here ∙ prepend-more xs (get_or ds (2 * i) 0 * 16 + get_or ds (2 * i + 1) 0) (paired (drop (2 * (i + 1)) ds))
-
-pub all-paired : (ds xs : List ℕ) (i : ℕ) → length ds ≡ 2 * i → paired ds ≡ prepend xs (paired (drop (2 * i) ds)) → paired ds ≡ Some xs
-all-paired ds xs i e inv = inv ∙ ap (λ l. prepend xs (paired l)) (drop_all (2 * i) ds (omega arith)) ∙ ap Some (append-nil xs)
+pub pair_more : (ds xs pair left rest ys : List ℕ) → length pair ≡ 2 → left ≡ pair ++ rest → paired ds ≡ prepend xs (paired left) → ys ≡ xs ++ (get_or pair 0 0 * 16 + get_or pair 1 0) ∷ [] → paired ds ≡ prepend ys (paired rest)
+pair_more ds xs (a ∷ b ∷ []) left rest ys two at inv push =
+    inv ∙ ap (λ l. prepend xs (paired l)) at ∙ prepend-more xs (a * 16 + b) (paired rest) ∙ ap (λ l. prepend l (paired rest)) (sym push)
+pair_more ds xs pair left rest ys two at inv push = absurd (omega arith)

@@ -1,5 +1,7 @@
 -- Bytes written as pairs of hexadecimal digits. Assumes nothing.
-use Rattle.std.specs.Prelude.{◌≡◌, ℕ, ◌+◌, ◌-◌, ◌*◌, ◌<◌, Bool, true, false, cond, ◌&&◌, ◌||◌, List, [], ◌∷◌, ◌++◌, length, is_some, Some, None, codes, decimal, Option, ◌==◌, nat_le, slice_index}
+use Rattle.std.specs.Prelude.{◌≡◌, ℕ, ◌+◌, ◌-◌, ◌*◌, ◌<◌, Bool, true, false, cond, ◌&&◌, ◌||◌, List, [], ◌∷◌, ◌++◌, length, is_some, Some, None, codes, decimal, Option, nat_le, slice_index}
+use Rattle.request.specs.Numbers.{put_front}
+use Rattle.request.specs.Words.{is_space}
 use Rattle.console.specs.declared.hex.HexFault.{HexFault}
 use Rattle.console.specs.declared.hex.HexFault.TheVariants.{NoDigit, OddDigit, Memory}
 
@@ -9,15 +11,6 @@ digit c =
     cond (nat_le 48 c && nat_le c 57) (Some (c - 48))
     (cond (nat_le 65 c && nat_le c 70) (Some (c - 65 + 10))
     (cond (nat_le 97 c && nat_le c 102) (Some (c - 97 + 10)) None))
-
--- space, tab, line feed, carriage return
-abbrev pub is_space : ℕ → Bool
-is_space c = c == 32 || c == 9 || c == 10 || c == 13
-
-abbrev pub put_front : Option ℕ → Option (List ℕ) → Option (List ℕ)
-put_front None o = None
-put_front (Some x) None = None
-put_front (Some x) (Some xs) = Some (x ∷ xs)
 
 -- the values of the digits of a text, white space left out; none where another character stands
 abbrev pub digits_in : List ℕ → Option (List ℕ)
@@ -64,3 +57,9 @@ abbrev pub bad_hex_text : HexFault → List ℕ
 bad_hex_text (NoDigit at) = codes "bad hex: no digit at index " ++ decimal at
 bad_hex_text OddDigit = codes "bad hex: odd number of digits"
 bad_hex_text Memory = []
+
+-- a fault as text
+abbrev pub hex_fault_text : HexFault → List ℕ
+hex_fault_text (NoDigit at) = bad_hex_text (NoDigit at)
+hex_fault_text OddDigit = bad_hex_text OddDigit
+hex_fault_text Memory = codes "no memory for the bytes"

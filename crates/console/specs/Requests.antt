@@ -1,29 +1,42 @@
 -- What the words behind the program's name ask for. Assumes nothing.
-use Rattle.std.specs.Prelude.{◌≡◌, ℕ, Bool, false, ◌⊎◌, List, Some, None, codes, Option}
-use Rattle.console.specs.declared.request.Request.{Request}
-use Rattle.console.specs.declared.request.Request.TheVariants.{Help, InspectLines, InspectFile, Plan, Link, Unknown}
+use Rattle.std.specs.Prelude.{◌≡◌, ℕ, ◌⊎◌, List, [], ◌∷◌, map, codes, string_bytes}
+use Rattle.console.specs.declared.command_line.Request.{Request}
+use Rattle.console.specs.declared.command_line.Request.TheVariants.{Help, InspectLines, InspectFile, Plan, Link, Unknown}
 
 -- no word, or `help` alone
-abbrev pub AsksHelp : Option (List ℕ) → Option (List ℕ) → Type 0
-AsksHelp first second = (first ≡ None) ⊎ ((first ≡ Some (codes "help")) × (second ≡ None))
+abbrev pub AsksHelp : List (List ℕ) → Type 0
+AsksHelp words = (words ≡ []) ⊎ (words ≡ codes "help" ∷ [])
 
--- `inspect`, and at most one word behind it
-abbrev pub AsksInspect : Option (List ℕ) → Bool → Type 0
-AsksInspect first more = (first ≡ Some (codes "inspect")) × (more ≡ false)
+-- `inspect` alone
+abbrev pub AsksInspectLines : List (List ℕ) → Type 0
+AsksInspectLines words = words ≡ codes "inspect" ∷ []
+
+-- `inspect` and the path behind it
+abbrev pub AsksInspectFile : List (List ℕ) → List ℕ → Type 0
+AsksInspectFile words path = words ≡ codes "inspect" ∷ path ∷ []
 
 -- `plan`, whatever stands behind it
-abbrev pub AsksPlan : Option (List ℕ) → Type 0
-AsksPlan first = first ≡ Some (codes "plan")
+abbrev pub AsksPlan : List (List ℕ) → List (List ℕ) → Type 0
+AsksPlan words asked = words ≡ codes "plan" ∷ asked
 
 -- `link` alone
-abbrev pub AsksLink : Option (List ℕ) → Option (List ℕ) → Type 0
-AsksLink first second = (first ≡ Some (codes "link")) × (second ≡ None)
+abbrev pub AsksLink : List (List ℕ) → Type 0
+AsksLink words = words ≡ codes "link" ∷ []
 
--- the request that the first two words are, where more says that others follow
-abbrev pub Asked : Option (List ℕ) → Option (List ℕ) → Bool → Request → Type 0
-Asked first second more Help = AsksHelp first second
-Asked first second more InspectLines = AsksInspect first more × (second ≡ None)
-Asked first second more (InspectFile path) = AsksInspect first more × (second ≡ Some path.now)
-Asked first second more Plan = AsksPlan first
-Asked first second more Link = AsksLink first second
-Asked first second more (Unknown word) = (first ≡ Some word.now) × (AsksHelp first second → ⊥) × (AsksInspect first more → ⊥) × (AsksPlan first → ⊥) × (AsksLink first second → ⊥)
+-- none of the requests
+abbrev pub AsksNothing : List (List ℕ) → Type 0
+AsksNothing words =
+    (AsksHelp words → ⊥)
+    × (AsksInspectLines words → ⊥)
+    × ((path : List ℕ) → AsksInspectFile words path → ⊥)
+    × ((asked : List (List ℕ)) → AsksPlan words asked → ⊥)
+    × (AsksLink words → ⊥)
+
+-- the request that the words make
+abbrev pub Asked : List (List ℕ) → Request → Type 0
+Asked words Help = AsksHelp words
+Asked words InspectLines = AsksInspectLines words
+Asked words (InspectFile path) = AsksInspectFile words path.now
+Asked words (Plan asked) = AsksPlan words (map string_bytes asked.now)
+Asked words Link = AsksLink words
+Asked words (Unknown word) = ((rest : List (List ℕ)) × (words ≡ word.now ∷ rest)) × AsksNothing words

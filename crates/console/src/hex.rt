@@ -1,12 +1,15 @@
 // Bytes written as pairs of hexadecimal digits.
 ghost use Rattle.std.specs.Prelude.{◌≡◌, ℕ, ◌+◌, ◌<◌, length, Some, MatchResult, slice_index};
 ghost use Rattle.console.specs.declared.hex.HexFault.TheVariants.{Memory};
-ghost use Rattle.console.specs.Hex.{Digits, Unpaired, Unread, digit, digits_in, hex_bytes, is_space, paired};
+ghost use Rattle.console.specs.Hex.{Digits, Unpaired, Unread, digit, hex_bytes, hex_fault_text, paired};
 
+use request::words::is_space;
 use std::alloc::{AllocError, AllocFailed, Global};
+use std::error::Error;
+use std::fmt;
 
 // Why a text is not read.
-#[derive(Clone, Copy)]
+#[derive(Clone, Copy, PartialEq, Eq, Debug)]
 pub enum HexFault {
     // The character at this index is no digit.
     NoDigit(usize),
@@ -32,23 +35,26 @@ impl<T: Drop> From<AllocFailed<T>> for HexFault {
     }
 }
 
+impl fmt::Display for HexFault {
+    ghost output = { λ fault. Some (hex_fault_text fault) };
+
+    fn fmt<W: fmt::Write>(&self, f: &mut fmt::Formatter<W>) -> fmt::Result {
+        match *self {
+            HexFault::NoDigit(at) => write!(f, "bad hex: no digit at index {at}"),
+            HexFault::OddDigit => write!(f, "bad hex: odd number of digits"),
+            HexFault::Memory => write!(f, "no memory for the bytes"),
+        }
+    }
+}
+
+impl Error for HexFault {}
+
 // The value of a digit, of either case.
 fn digit_value(c: u8) -> Option<u8>
     ensures { result ≡ digit c }
 {
-    match c {
-        b'0'..=b'9' => Some(c - b'0'),
-        b'A'..=b'F' => Some(c - b'A' + 10),
-        b'a'..=b'f' => Some(c - b'a' + 10),
-        _ => None,
-    }
-}
-
-// White space between digits.
-fn is_space(c: u8) -> bool
-    ensures { result ≡ is_space c }
-{
-    c == b' ' || c == b'\t' || c == b'\n' || c == b'\r'
+    let value = char::from(c).to_digit(16)?;
+    Some(value as u8)
 }
 
 // The values of the digits, white space left out.
@@ -73,12 +79,13 @@ fn joined_pairs(heap: Global, values: &[u8]) -> Result<Vec<u8>, HexFault>
     requires { (k : ℕ) → slice_index values.now k < 16 }
     ensures { MatchResult result (λ v. paired values.now ≡ Some v.items) (λ e. Unpaired values.now e) }
 {
-    let mut bytes = Vec::new(heap);
-    if values.len() % 2 != 0 {
+    let pairs = values.chunks_exact(2);
+    if !pairs.remainder().is_empty() {
         return Err(HexFault::OddDigit);
     }
-    for i in 0..values.len() / 2 {
-        bytes.push(values[2 * i] * 16 + values[2 * i + 1])?;
+    let mut bytes = Vec::new(heap);
+    for pair in pairs {
+        bytes.push(pair[0] * 16 + pair[1])?;
     }
     Ok(bytes)
 }

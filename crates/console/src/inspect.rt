@@ -3,8 +3,7 @@ ghost use Rattle.std.specs.Prelude.{◌≡◌, ◌++◌, IfOk, string_bytes};
 ghost use Rattle.dump.specs.Bytes.{words_in};
 ghost use Rattle.dump.specs.Pixels.{item};
 ghost use Rattle.dump.specs.Reading.{content};
-ghost use Rattle.console.specs.Hex.{bad_hex_text};
-ghost use Rattle.console.specs.Reports.{AnswerTo, Told, head_line, line_of, pixel_line, report, shown_pixel};
+ghost use Rattle.console.specs.Reports.{AnswerTo, Told, head_line, pixel_line, report, shown_pixel};
 
 use crate::hex::{HexFault, read_hex};
 use dump::dumps::{Dump, read_dump};
@@ -72,17 +71,6 @@ pub fn dump_text(heap: Global, bytes: &[u8]) -> Result<String, AllocError>
     }
 }
 
-// The line of what is wrong with a text that should be hexadecimal.
-fn bad_hex_line(heap: Global, fault: HexFault) -> Result<String, AllocError>
-    ensures { IfOk result (λ s. string_bytes s ≡ line_of (bad_hex_text fault)) }
-{
-    match fault {
-        HexFault::NoDigit(at) => format!(in heap; "bad hex: no digit at index {at}\n"),
-        HexFault::OddDigit => String::from_str(heap, "bad hex: odd number of digits\n"),
-        HexFault::Memory => Err(AllocError),
-    }
-}
-
 // The answer to a line: what is told of the dump that it spells in hexadecimal.
 pub fn line_text(heap: Global, line: &[u8]) -> Result<String, AllocError>
     ensures { IfOk result (λ s. AnswerTo line.now (string_bytes s)) }
@@ -90,6 +78,6 @@ pub fn line_text(heap: Global, line: &[u8]) -> Result<String, AllocError>
     match read_hex(heap, line) {
         Ok(bytes) => dump_text(heap, bytes.as_slice()),
         Err(HexFault::Memory) => Err(AllocError),
-        Err(fault) => bad_hex_line(heap, fault),
+        Err(fault) => format!(in heap; "{fault}\n"),
     }
 }

@@ -11,4 +11,5 @@ pub mod Runs
 pub mod Shares
 pub mod Swap
 pub mod SwapRules
+pub mod Texts
 pub mod Transfers

@@ -16,5 +16,6 @@ pub mod swap;
 pub mod swap_plan;
 #[cfg(test)]
 mod tests;
+pub mod text;
 pub mod transfer;
 pub mod transfers;

@@ -1,71 +1,63 @@
 -- Words cut off one by one. Assumes nothing.
-use Rattle.std.proofs.Common.{◌≡◌, ℕ, suc, ◌+◌, ◌-◌, ◌<◌, ◌≤◌, Bool, true, false, cond, List, [], ◌∷◌, length, get_or, take, drop, sym, refl, ap, ◌∙◌, subst, ⊎_elim, arith, length-drop}
-use Rattle.std.proofs.lemmas.List.{drop_more, drop_all, take_rest}
-use Rattle.std.proofs.lemmas.Bool.{cond-true, cond-false, cases_Bool, not_from_true, not_from_false, true≢false}
-use Rattle.request.specs.Words.{at_gap, is_letter, is_space, onto, run, words_in}
+use Rattle.std.proofs.Common.{◌≡◌, ℕ, suc, ◌+◌, ◌-◌, ◌<◌, ◌≤◌, true, false, cond, not, List, [], ◌∷◌, length, get_or, take, drop, position, Some, None, sym, refl, ap, ◌∙◌, subst, ⊎_elim, arith, length-drop}
+use Rattle.std.specs.List.{position_or_len, prefix_len, take_while}
+use Rattle.std.proofs.lemmas.List.Folds.{length-prefix_len}
+use Rattle.std.proofs.lemmas.List.{drop_more}
+use Rattle.std.proofs.lemmas.List.Quantifiers.{position-Some}
+use Rattle.std.proofs.lemmas.Bool.{cond-true, cond-false, cases_Bool, not-true, true≢false}
+use Rattle.std.proofs.lemmas.Grind.{common_steps}
+use Rattle.request.specs.Words.{at_gap, is_letter, is_space, onto, words_in}
 
--- a run ends within the text
-pub run-within : (p : ℕ → Bool) (l : List ℕ) → run p l ≤ length l
-run-within p [] = omega arith
-run-within p (c ∷ cs) = by (p c) (run-within p cs)
-  where
-    by : (b : Bool) → run p cs ≤ length cs → cond b (suc (run p cs)) 0 ≤ suc (length cs)
-    by true h = omega arith
-    by false h = omega arith
+-- the white space at the front, and the bytes of a word at the front
+abbrev pub spaces : List ℕ → ℕ
+spaces l = position_or_len is_letter l
 
--- a run counted byte by byte
-module _ (p : ℕ → Bool) (l : List ℕ) (i : ℕ) where
-  pub run_more : i < length l → p (get_or l i 0) ≡ true → run p l ≡ i + run p (drop i l) → run p l ≡ i + 1 + run p (drop (i + 1) l)
-  run_more h e inv =
-      let here : run p (drop i l) ≡ suc (run p (drop (i + 1) l)) = ap (run p) (drop_more l i 0 h) ∙ cond-true _ _ _ e in
-      omega arith
+abbrev pub letters : List ℕ → ℕ
+letters l = prefix_len is_letter l
 
-  pub run_stops : i < length l → p (get_or l i 0) ≡ false → run p l ≡ i + run p (drop i l) → i ≡ run p l
-  run_stops h e inv =
-      let here : run p (drop i l) ≡ 0 = ap (run p) (drop_more l i 0 h) ∙ cond-false _ _ _ e in
-      omega arith
+module _ (c : ℕ) (cs : List ℕ) where
+  space_more : is_space c ≡ true → spaces (c ∷ cs) ≡ suc (spaces cs)
+  space_more e = ap (λ b. cond (not (not b)) (1 + spaces cs) 0) e ∙ omega arith
 
-  pub run-all : length l ≤ i → i ≤ length l → run p l ≡ i + run p (drop i l) → length l ≡ run p l
-  run-all past within inv =
-      let here : run p (drop i l) ≡ 0 = ap (run p) (drop_all i l past) in
-      omega arith
+  no_space : is_space c ≡ false → spaces (c ∷ cs) ≡ 0
+  no_space e = ap (λ b. cond (not (not b)) (1 + spaces cs) 0) e
+
+  letter_more : is_space c ≡ false → letters (c ∷ cs) ≡ suc (letters cs)
+  letter_more e = ap (λ b. cond (not b) (1 + letters cs) 0) e ∙ omega arith
+
+  no_letter : is_space c ≡ true → letters (c ∷ cs) ≡ 0
+  no_letter e = ap (λ b. cond (not b) (1 + letters cs) 0) e
 
 -- white space at the front has no word
-pub past_spaces : (l : List ℕ) → words_in (drop (run is_space l) l) ≡ words_in l
+past_spaces : (l : List ℕ) → words_in (drop (spaces l) l) ≡ words_in l
 past_spaces [] = refl
 past_spaces (c ∷ cs) =
     ⊎_elim
-    (λ e. ap (λ n. words_in (drop n (c ∷ cs))) (cond-true _ _ _ e) ∙ past_spaces cs ∙ sym (cond-true _ _ _ e))
-    (λ e. ap (λ n. words_in (drop n (c ∷ cs))) (cond-false _ _ _ e))
+    (λ e. ap (λ n. words_in (drop n (c ∷ cs))) (space_more c cs e) ∙ past_spaces cs ∙ sym (cond-true _ _ _ e))
+    (λ e. ap (λ n. words_in (drop n (c ∷ cs))) (no_space c cs e))
     (cases_Bool (is_space c))
 
--- the part of a text behind its white space, as a slice from there on
-pub behind : (l : List ℕ) (s : ℕ) → s ≡ run is_space l → take (length l - s) (drop s l) ≡ drop (run is_space l) l
-behind l s e = take_rest l s ∙ ap (λ n. drop n l) e
-
--- no byte of a word behind the white space at the front: no word at all
-pub no_word : (l : List ℕ) → run is_letter (drop (run is_space l) l) ≡ 0 → words_in l ≡ []
-no_word [] z = refl
-no_word (c ∷ cs) z =
+-- nothing but white space has no word
+all_spaces : (l : List ℕ) → length l ≤ spaces l → words_in l ≡ []
+all_spaces [] h = refl
+all_spaces (c ∷ cs) h =
     ⊎_elim
-    (λ e. cond-true _ _ _ e ∙ no_word cs (sym (ap (λ n. run is_letter (drop n (c ∷ cs))) (cond-true _ _ _ e)) ∙ z))
-    (λ e.
-    let some : run is_letter (c ∷ cs) ≡ suc (run is_letter cs) = cond-true _ _ _ (not_from_false _ e) in
-    let none : run is_letter (c ∷ cs) ≡ 0 = sym (ap (λ n. run is_letter (drop n (c ∷ cs))) (cond-false _ _ _ e)) ∙ z in
-    absurd (omega arith))
+    (λ e. let more = space_more c cs e in cond-true _ _ _ e ∙ all_spaces cs (omega arith))
+    (λ e. let none = no_space c cs e in absurd (omega arith))
     (cases_Bool (is_space c))
+
+pub no_word : (l : List ℕ) → position is_letter l ≡ None → words_in l ≡ []
+no_word l e = all_spaces l (grind (arith, common_steps))
 
 -- no byte of a word at a gap
-gap_none : (l : List ℕ) → at_gap l ≡ true → run is_letter l ≡ 0
+gap_none : (l : List ℕ) → at_gap l ≡ true → letters l ≡ 0
 gap_none [] e = refl
-gap_none (c ∷ cs) e = cond-false _ _ _ (not_from_true _ e)
+gap_none (c ∷ cs) e = no_letter c cs e
 
 -- a byte of a word where there is no gap
-gap_some : (l : List ℕ) → at_gap l ≡ false → 0 < run is_letter l
+gap_some : (l : List ℕ) → at_gap l ≡ false → 0 < letters l
 gap_some [] e = absurd (true≢false e)
-gap_some (c ∷ cs) e =
-    let some : run is_letter (c ∷ cs) ≡ suc (run is_letter cs) = cond-true _ _ _ (not_from_false _ e) in
-    omega arith
+gap_some (c ∷ cs) e = let some = letter_more c cs e in omega arith
 
 -- the first n bytes are the first word
 abbrev Cut_at : List ℕ → ℕ → Type 0
@@ -73,29 +65,33 @@ Cut_at l n = words_in l ≡ take n l ∷ words_in (drop n l)
 
 -- a byte of a word before a text
 module _ (c : ℕ) (cs : List ℕ) (e : is_space c ≡ false) where
-  more : run is_letter (c ∷ cs) ≡ suc (run is_letter cs)
-  more = cond-true _ _ _ (not_from_false _ e)
+  ends : at_gap cs ≡ true → Cut_at (c ∷ cs) (letters (c ∷ cs))
+  ends g = subst (Cut_at (c ∷ cs)) (sym (letter_more c cs e ∙ ap suc (gap_none cs g))) (cond-false _ _ _ e ∙ cond-true _ _ _ g)
 
-  ends : at_gap cs ≡ true → Cut_at (c ∷ cs) (run is_letter (c ∷ cs))
-  ends g = subst (Cut_at (c ∷ cs)) (sym (more ∙ ap suc (gap_none cs g))) (cond-false _ _ _ e ∙ cond-true _ _ _ g)
-
-  goes_on : at_gap cs ≡ false → Cut_at cs (run is_letter cs) → Cut_at (c ∷ cs) (run is_letter (c ∷ cs))
-  goes_on g first = subst (Cut_at (c ∷ cs)) (sym more) (cond-false _ _ _ e ∙ cond-false _ _ _ g ∙ ap (onto c) first)
+  goes_on : at_gap cs ≡ false → Cut_at cs (letters cs) → Cut_at (c ∷ cs) (letters (c ∷ cs))
+  goes_on g first = subst (Cut_at (c ∷ cs)) (sym (letter_more c cs e)) (cond-false _ _ _ e ∙ cond-false _ _ _ g ∙ ap (onto c) first)
 
 -- bytes of a word at the front are the first word
-one_word : (l : List ℕ) → 0 < run is_letter l → Cut_at l (run is_letter l)
+one_word : (l : List ℕ) → 0 < letters l → Cut_at l (letters l)
 one_word [] h = absurd (omega arith)
 one_word (c ∷ cs) h =
     ⊎_elim
-    (λ e. let none : run is_letter (c ∷ cs) ≡ 0 = cond-false _ _ _ (not_from_true _ e) in absurd (omega arith))
+    (λ e. let none = no_letter c cs e in absurd (omega arith))
     (λ e. ⊎_elim (ends c cs e) (λ g. goes_on c cs e g (one_word cs (gap_some cs g))) (cases_Bool (at_gap cs)))
     (cases_Bool (is_space c))
 
 -- the first word of a text, behind its white space
-pub first_word : (l from word rest : List ℕ) (n : ℕ) → from ≡ drop (run is_space l) l → n ≡ run is_letter from → (n ≡ 0 → ⊥) → word ≡ take n from → rest ≡ drop n from → (words_in l ≡ word ∷ words_in rest) × (length rest < length l)
-first_word l from word rest n at is some front back =
-    let first : words_in from ≡ take n from ∷ words_in (drop n from) = subst (Cut_at from) (sym is) (one_word from (omega arith)) in
-    let within = run-within is_letter from in
-    let long : length from ≡ length l - run is_space l = ap length at ∙ length-drop (run is_space l) l in
+pub first_word : (l from word rest : List ℕ) (s n : ℕ) → position is_letter l ≡ Some s → from ≡ drop s l → n ≡ length (take_while is_letter from) → word ≡ take n from → rest ≡ drop n from → (words_in l ≡ word ∷ words_in rest) × (length rest < length l)
+first_word l from word rest s n found at long front back =
+    let is : n ≡ letters from = long ∙ length-prefix_len is_letter from in
+    let p = position-Some is_letter l s 0 found in
+    let start : s ≡ spaces l = grind (arith, common_steps) in
+    let some : 0 < letters from = begins (get_or l s 0) (drop (s + 1) l) from (not-true (is_space (get_or l s 0)) p.1) (at ∙ drop_more l s 0 p.0) in
+    let first : words_in from ≡ take n from ∷ words_in (drop n from) = subst (Cut_at from) (sym is) (one_word from some) in
+    let behind : words_in from ≡ words_in l = ap words_in (at ∙ ap (λ n. drop n l) start) ∙ past_spaces l in
+    let after : length from ≡ length l - s = ap length at ∙ length-drop s l in
     let left : length rest ≡ length from - n = ap length back ∙ length-drop n from in
-    (sym (past_spaces l) ∙ ap words_in (sym at) ∙ first ∙ (λ i. sym front i ∷ words_in (sym back i)), omega arith)
+    (sym behind ∙ first ∙ (λ i. sym front i ∷ words_in (sym back i)), omega arith)
+  where
+    begins : (c : ℕ) (cs from : List ℕ) → is_space c ≡ false → from ≡ c ∷ cs → 0 < letters from
+    begins c cs from e at = let more = letter_more c cs e in let same : letters from ≡ letters (c ∷ cs) = ap letters at in omega arith

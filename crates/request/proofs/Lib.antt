@@ -1,2 +1,3 @@
 mod Cuts
-mod Decimals
+pub mod Decimals
+mod Names

@@ -1,12 +1,9 @@
 -- Requests for calls of a link. Assumes nothing.
-use Rattle.std.specs.Prelude.{◌≡◌, ℕ, cond, ◌&&◌, List, [], ◌∷◌, Some, None, vec_items, codes, Option}
+use Rattle.std.specs.Prelude.{ℕ, cond, ◌&&◌, List, [], ◌∷◌, Some, None, codes, Option}
 use Rattle.std.specs.Str.{bytes_eq}
 use Rattle.request.specs.declared.links.LinkCall.{LinkCall}
 use Rattle.request.specs.declared.links.LinkCall.TheVariants.{Cell, Line, Trim, Send, Read, Clear, Waiting, Area}
-use Rattle.request.specs.declared.links.LinkRequest.{LinkRequest}
-use Rattle.request.specs.declared.links.Named.{Named}
-use Rattle.request.specs.Numbers.{numbers}
-use Rattle.request.specs.Words.{words_in}
+use Rattle.request.specs.Requests.{numbered, with_words}
 
 -- the calls with a name of one word
 abbrev pub call_named : List ℕ → Option LinkCall
@@ -24,10 +21,6 @@ kind_named word kind =
     (cond (bytes_eq word (codes "link") && bytes_eq kind (codes "line")) (Some Line)
     (cond (bytes_eq word (codes "layer") && bytes_eq kind (codes "trim")) (Some Trim) None))
 
-abbrev pub with_words : Option LinkCall → List (List ℕ) → Option (LinkCall × List (List ℕ))
-with_words None ws = None
-with_words (Some c) ws = Some (c, ws)
-
 -- a name of two words, the first of which is w
 abbrev pub second_named : List ℕ → List (List ℕ) → Option (LinkCall × List (List ℕ))
 second_named w [] = None
@@ -42,22 +35,6 @@ abbrev pub named_words : List (List ℕ) → Option (LinkCall × List (List ℕ)
 named_words [] = None
 named_words (w ∷ ws) = named_or (call_named w) w ws
 
--- the call is cut off, or there is none
-abbrev pub CallCut : List (List ℕ) → Option Named → Type 0
-CallCut words None = named_words words ≡ None
-CallCut words (Some n) = named_words words ≡ Some (n.call, words_in n.rest.now)
-
-abbrev pub with_numbers : LinkCall → Option (List ℕ) → Option (LinkCall × List ℕ)
-with_numbers c None = None
-with_numbers c (Some ns) = Some (c, ns)
-
-abbrev pub numbered : Option (LinkCall × List (List ℕ)) → Option (LinkCall × List ℕ)
-numbered None = None
-numbered (Some q) = with_numbers q.0 (numbers q.1)
-
 -- the request in the words of a line: the name of a call, then only numbers
 abbrev pub link_asked : List (List ℕ) → Option (LinkCall × List ℕ)
 link_asked words = numbered (named_words words)
-
-abbrev pub told : LinkRequest → LinkCall × List ℕ
-told q = (q.call, vec_items q.numbers)

@@ -1,5 +1,6 @@
 -- The words of a text: the longest runs of bytes that are no white space. Assumes nothing.
-use Rattle.std.specs.Prelude.{◌≡◌, ℕ, suc, ◌<◌, Bool, true, cond, not, ◌||◌, List, [], ◌∷◌, length, Some, None, Option, ◌==◌}
+use Rattle.std.specs.Prelude.{◌≡◌, ℕ, ◌<◌, Bool, true, cond, not, ◌||◌, List, [], ◌∷◌, length, Some, None, Option, ◌==◌}
+use Rattle.std.specs.Borrow.{Bor}
 use Rattle.request.specs.declared.words.Cut.{Cut}
 
 -- space, tab, line feed, carriage return
@@ -25,12 +26,7 @@ abbrev pub words_in : List ℕ → List (List ℕ)
 words_in [] = []
 words_in (c ∷ cs) = cond (is_space c) (words_in cs) (cond (at_gap cs) ((c ∷ []) ∷ words_in cs) (onto c (words_in cs)))
 
--- how many bytes at the front pass a test
-abbrev pub run : (ℕ → Bool) → List ℕ → ℕ
-run p [] = 0
-run p (c ∷ cs) = cond (p c) (suc (run p cs)) 0
-
 -- no word, or the first word with the shorter text behind it that has the other words
-abbrev pub FirstWord : List ℕ → Option Cut → Type 0
+abbrev pub FirstWord : List ℕ → Option (Cut (Bor (List ℕ))) → Type 0
 FirstWord text None = words_in text ≡ []
-FirstWord text (Some cut) = (words_in text ≡ cut.word.now ∷ words_in cut.rest.now) × (length cut.rest.now < length text)
+FirstWord text (Some cut) = (words_in text ≡ cut.front.now ∷ words_in cut.rest.now) × (length cut.rest.now < length text)

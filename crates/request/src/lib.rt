@@ -2,7 +2,7 @@
 #![tactic(auto)]
 
 pub mod links;
-mod names;
 pub mod numbers;
 pub mod plans;
+pub mod requests;
 pub mod words;

@@ -4,10 +4,10 @@ ghost use Rattle.std.specs.Option.{option_map};
 ghost use Rattle.request.specs.Numbers.{number, numbers};
 ghost use Rattle.request.specs.Words.{words_in};
 
-use crate::words::first_word;
+use crate::words::Words;
 use std::alloc::{AllocError, Global};
 
-// The number that a word writes, if it writes one that fits.
+// The number that a word writes, if it writes one that fits: a sign is no digit.
 pub fn number_of(word: &[u8]) -> Option<u32>
     ensures { result ≡ number word.now }
 {
@@ -16,14 +16,8 @@ pub fn number_of(word: &[u8]) -> Option<u32>
     }
     let mut value: u32 = 0;
     for c in word {
-        if !c.is_ascii_digit() {
-            return None;
-        }
-        let next = u64::from(value) * 10 + u64::from(*c - b'0');
-        if next > u64::from(u32::MAX) {
-            return None;
-        }
-        value = next as u32;
+        let digit = char::from(*c).to_digit(10)?;
+        value = value.checked_mul(10)?.checked_add(digit)?;
     }
     Some(value)
 }
@@ -33,13 +27,12 @@ pub fn numbers_in(heap: Global, text: &[u8]) -> Result<Option<Vec<u32>>, AllocEr
     ensures { IfOk result (λ o. option_map vec_items o ≡ numbers (words_in text.now)) }
 {
     let mut values = Vec::new(heap);
-    let mut left = text;
-    while let Some(cut) = first_word(left) {
-        let Some(value) = number_of(cut.word) else {
+    let words = Words { left: text };
+    for word in words {
+        let Some(value) = number_of(word) else {
             return Ok(None);
         };
         values.push(value)?;
-        left = cut.rest;
     }
     Ok(Some(values))
 }

@@ -1,53 +1,47 @@
 // Requests for plans.
 ghost use Rattle.std.specs.Prelude.{◌≡◌, IfOk};
 ghost use Rattle.std.specs.Option.{option_map};
-ghost use Rattle.request.specs.Plans.{plan_asked, plan_named, told};
+ghost use Rattle.request.specs.Plans.{maker_words, plan_asked, plan_named};
+ghost use Rattle.request.specs.Requests.{call_and_words, told};
 ghost use Rattle.request.specs.Words.{words_in};
 
-use crate::names::is_word;
-use crate::numbers::numbers_in;
-use crate::words::first_word;
+use crate::requests::{Request, numbered};
+use crate::words::{Cut, first_word};
 use std::alloc::{AllocError, Global};
 
 // A maker of plans.
-#[derive(Clone, Copy)]
+#[derive(Clone, Copy, PartialEq, Eq, Debug)]
 pub enum Maker {
     Swap,
     Radix,
 }
 
 // A maker and the numbers that it is given.
-#[derive(Drop)]
-pub struct PlanRequest {
-    pub maker: Maker,
-    pub numbers: Vec<u32>,
-}
+pub type PlanRequest = Request<Maker>;
 
 // The maker of this name.
 fn maker_named(word: &[u8]) -> Option<Maker>
     ensures { result ≡ plan_named word.now }
 {
-    if is_word(word, b"swap") {
-        return Some(Maker::Swap);
+    match word {
+        b"swap" => Some(Maker::Swap),
+        b"radix" => Some(Maker::Radix),
+        _ => None,
     }
-    if is_word(word, b"radix") {
-        return Some(Maker::Radix);
-    }
-    None
+}
+
+// The maker that a line names, with the text behind its name.
+fn maker_in(line: &[u8]) -> Option<Cut<'_, Maker>>
+    ensures { option_map call_and_words result ≡ maker_words (words_in line.now) }
+{
+    let Cut { front, rest } = first_word(line)?;
+    let front = maker_named(front)?;
+    Some(Cut { front, rest })
 }
 
 // The request that a line makes, if it names a maker and then only numbers.
 pub fn plan_request(heap: Global, line: &[u8]) -> Result<Option<PlanRequest>, AllocError>
     ensures { IfOk result (λ o. option_map told o ≡ plan_asked (words_in line.now)) }
 {
-    let Some(cut) = first_word(line) else {
-        return Ok(None);
-    };
-    let Some(maker) = maker_named(cut.word) else {
-        return Ok(None);
-    };
-    let Some(numbers) = numbers_in(heap, cut.rest)? else {
-        return Ok(None);
-    };
-    Ok(Some(PlanRequest { maker, numbers }))
+    numbered(heap, maker_in(line))
 }

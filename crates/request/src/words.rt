@@ -1,55 +1,62 @@
 // The words of a text.
-ghost use Rattle.std.specs.Prelude.{◌≡◌};
-ghost use Rattle.request.specs.Words.{FirstWord, is_letter, is_space, run};
+ghost use Rattle.std.specs.Prelude.{◌≡◌, length, position};
+ghost use Rattle.std.specs.List.{take_while};
+ghost use Rattle.std.specs.Iterator.{YieldsFirstRef, item_count};
+ghost use Rattle.request.specs.Words.{FirstWord, is_letter, is_space, words_in};
 
-// The first word of a text, and the text behind it.
+// What stands first in a text, and the text behind it.
 #[derive(Clone, Copy)]
-pub struct Cut<'a> {
-    pub word: &'a [u8],
+pub struct Cut<'a, T> {
+    pub front: T,
     pub rest: &'a [u8],
 }
 
-// White space between words.
-fn is_space(c: u8) -> bool
+// White space between words: form feed is none.
+pub fn is_space(c: u8) -> bool
     ensures { result ≡ is_space c }
 {
-    c == b' ' || c == b'\t' || c == b'\n' || c == b'\r'
+    matches!(c, b' ' | b'\t' | b'\n' | b'\r')
 }
 
-// How many bytes at the front are white space.
-fn leading_spaces(text: &[u8]) -> usize
-    ensures { result ≡ run is_space text.now }
+// Where the first word begins, if there is a word.
+fn word_start(text: &[u8]) -> Option<usize>
+    ensures { result ≡ position is_letter text.now }
 {
-    for (i, c) in text.iter().enumerate() {
-        if !is_space(*c) {
-            return i;
-        }
-    }
-    text.len()
+    text.iter().position(|c| !is_space(*c))
 }
 
-// How many bytes at the front are no white space.
-fn leading_letters(text: &[u8]) -> usize
-    ensures { result ≡ run is_letter text.now }
+// Where a word that begins the text ends.
+fn word_end(text: &[u8]) -> usize
+    ensures { result ≡ length (take_while is_letter text.now) }
 {
-    for (i, c) in text.iter().enumerate() {
-        if is_space(*c) {
-            return i;
-        }
-    }
-    text.len()
+    text.iter().take_while(|c| !is_space(**c)).count()
 }
 
 // The first word of a text with what stands behind it, if there is a word.
-pub fn first_word(text: &[u8]) -> Option<Cut>
+pub fn first_word(text: &[u8]) -> Option<Cut<'_, &[u8]>>
     ensures { FirstWord text.now result }
 {
-    let from_word = &text[leading_spaces(text)..];
-    let end = leading_letters(from_word);
-    if end == 0 {
-        return None;
+    let from_word = &text[word_start(text)?..];
+    let (front, rest) = from_word.split_at(word_end(from_word));
+    Some(Cut { front, rest })
+}
+
+// The words of a text, one by one.
+#[derive(Drop)]
+pub struct Words<'a> {
+    pub left: &'a [u8],
+}
+
+impl<'a> Iterator for Words<'a> {
+    type Item = &'a [u8];
+
+    ghost next_gives = { YieldsFirstRef (λ s. words_in s.left.now) };
+
+    ghost remaining = { item_count (λ s. words_in s.left.now) };
+
+    fn next(&mut self) -> Option<&'a [u8]> {
+        let Cut { front, rest } = first_word(self.left)?;
+        self.left = rest;
+        Some(front)
     }
-    let word = &from_word[..end];
-    let rest = &from_word[end..];
-    Some(Cut { word, rest })
 }

@@ -5,7 +5,7 @@ use anyhow::anyhow;
 use commands::inspects::{inspect_file, inspect_lines};
 use commands::links::link_lines;
 use commands::plans::{plan_lines, plan_words};
-use console::request::{Request, request_of};
+use console::command_line::{Request, request_of};
 use std::env;
 
 const HELP: &str =
@@ -27,23 +27,14 @@ fn refuse(rt: &HostRuntime, word: &str) -> anyhow::Result<()> {
     Err(anyhow!("no such request"))
 }
 
-// The word with this index as text, if there is one.
-fn word_at(words: &[String], index: usize) -> Option<&str> {
-    match words.get(index) {
-        Some(word) => Some(word.as_str()),
-        None => None,
-    }
-}
-
 fn main(rt: HostRuntime) -> anyhow::Result<()> {
     let given = env::args(&rt)?.skip(1).collect::<Vec<String>>(rt.alloc())?;
-    let words = given.as_slice();
-    match request_of(word_at(words, 0), word_at(words, 1), words.len() > 2) {
+    match request_of(given.as_slice()) {
         Request::Help => Ok(rt.print(HELP)?),
         Request::InspectLines => inspect_lines(&rt),
         Request::InspectFile(path) => inspect_file(&rt, path),
-        Request::Plan if words.len() > 1 => plan_words(&rt, &words[1..]),
-        Request::Plan => plan_lines(&rt),
+        Request::Plan([]) => plan_lines(&rt),
+        Request::Plan(words) => plan_words(&rt, words),
         Request::Link => link_lines(&rt),
         Request::Unknown(word) => refuse(&rt, word),
     }

@@ -1,6 +1,6 @@
 use Rattle.std.proofs.Common.{◌≡◌, ℕ, ◌<◌, true, get_or, drop, vec_items}
 use Rattle.console.specs.Hex.{digits_in, readable}
-use Rattle.console.proofs.Texts.{prepend}
+use Rattle.request.proofs.Decimals.{prepend}
 use Rattle.console.proofs.hex.digits.Given as goal
 
 abbrev pub invariant-loop-i : goal.invariant-loop-i

@@ -1,17 +1,20 @@
-use Rattle.std.proofs.Common.{ℕ, ◌+◌, ◌*◌, List, drop, vec_items, sym, ap, ◌∙◌, arith}
-use Rattle.console.specs.Hex.{paired}
-use Rattle.console.proofs.Texts.{prepend, odd_digits, pair_more, all-paired}
+use Rattle.std.proofs.Common.{rules, vec_items, arith, ap, ◌∙◌, length}
+use Rattle.std.proofs.lemmas.List.{length-append}
+use Rattle.std.specs.Slice.Iter.{chunks_exact_rest}
+use Rattle.console.proofs.Texts.{odd_digits, pair_more}
 use Rattle.console.proofs.hex.joined_pairs.Goals as goal
 
-pub returns-then-values-ne0 : goal.returns-then-values-ne0
-returns-then-values-ne0 c = odd_digits c.args.values.now c.if-values-ne0.true
+pub returns-then-not-is_empty : goal.returns-then-not-is_empty
+returns-then-not-is_empty c = odd_digits c.args.values.now (search rules)
 
-pub loop-i-preserved : goal.loop-i-preserved
-loop-i-preserved c =
-    let ds = c.args.values.now in
-    let i = c.loop-i.i in
-    pair_more ds (vec_items c.loop-i.bytes) i (omega arith) c.loop-i.invariant
-    ∙ ap (λ (ys : List ℕ). prepend ys (paired (drop (2 * (i + 1)) ds))) (sym c.in_ok-push.ensures.items)
-
-pub returns : goal.returns
-returns c = all-paired c.args.values.now (vec_items c.loop-i.bytes) c.loop-i.i (omega arith) c.loop-i.invariant
+pub loop-pair-preserved : goal.loop-pair-preserved
+loop-pair-preserved c =
+    let inv = c.loop-pair.invariant in
+    let step = c.in-Some.ensures.steps in
+    let pair = c.in-Some.pair.now in
+    let left = chunks_exact_rest c.next.new.self in
+    let long = ap length step.1.0 ∙ length-append pair left in (
+      step.0 ∙ inv.0,
+      pair_more c.args.values.now (vec_items c.loop-pair.bytes) pair _ left _ (step.1.1 ∙ inv.0) step.1.0 inv.1 c.in_ok-push.ensures.items,
+      omega arith,
+    )
