@@ -1,4 +1,3 @@
-mod Standing
 pub mod Spelled
 mod Lawful
 mod PixelRecords

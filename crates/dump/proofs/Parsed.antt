@@ -1,6 +1,7 @@
 -- What a run of sound records up to END is by the grammar. Assumes nothing.
-use Rattle.std.proofs.Common.{◌≡◌, ℕ, zero, suc, ◌+◌, ◌*◌, ◌<◌, ◌≤◌, true, ◌⊎◌, List, [], ◌∷◌, ◌++◌, length, get_or, take, drop, Some, None, Option, sym, refl, ap, ◌∙◌, subst, ⊎_elim, one-add, arith, take-append-drop, length-take-le}
+use Rattle.std.proofs.Common.{◌≡◌, ℕ, zero, suc, ◌+◌, ◌*◌, ◌<◌, ◌≤◌, true, List, [], ◌∷◌, ◌++◌, length, get_or, take, drop, Some, None, Option, sym, refl, ap, ◌∙◌, subst, one-add, arith, take-append-drop, length-take-le}
 use Rattle.std.proofs.lemmas.Bool.Decides.{nat_tests}
+use Rattle.std.proofs.lemmas.Option.{none-some}
 use Rattle.tile.specs.declared.fault.Ground.{Ground}
 use Rattle.tile.specs.Named.{named_lawful}
 use Rattle.dump.specs.Phases.{Heading, Advance, Phase, Before, Between, Behind}
@@ -13,12 +14,12 @@ use Rattle.dump.proofs.Runs.{missing}
 use Rattle.dump.proofs.PixelRecords.{Acts, near_acts, cover_acts}
 use Rattle.dump.proofs.Held.{form-held, at_end}
 
--- n sound records are left, from a stage up to END
-pub data Left (h : Heading) : ℕ → Phase → List ℕ → Type 0 where
-  done : Left h 0 (Behind h) []
-  then : {n : ℕ} {t : Phase} {rest : List ℕ} → refusal t rest ≡ None → Left h n (next t (kind_at rest) (body_at rest)) (behind rest) → Left h (suc n) t rest
+-- n sound records lead to a stage e with z left
+pub data Left (e : Phase) (z : List ℕ) : ℕ → Phase → List ℕ → Type 0 where
+  done : Left e z 0 e z
+  then : {n : ℕ} {t : Phase} {rest : List ℕ} → refusal t rest ≡ None → Left e z n (next t (kind_at rest) (body_at rest)) (behind rest) → Left e z (suc n) t rest
 
-pub join : {h : Heading} {s : Phase} {bytes : List ℕ} {t : Phase} {rest : List ℕ} (n : ℕ) → Sound s bytes t rest → Left h n t rest → (m : ℕ) × Left h m s bytes
+pub join : {e : Phase} {z : List ℕ} {s : Phase} {bytes : List ℕ} {t : Phase} {rest : List ℕ} (n : ℕ) → Sound s bytes t rest → Left e z n t rest → (m : ℕ) × Left e z m s bytes
 join n none l = (n, l)
 join n (more run f) l = join (suc n) run (then f l)
 
@@ -34,11 +35,11 @@ none-missing n k z h = (grind (arith, nat_tests), (grind (arith, nat_tests), gri
 
 none_both : (o p : Option Ground) → or_else o p ≡ None → (o ≡ None) × (p ≡ None)
 none_both None p h = (refl, h)
-none_both (Some g) p h = let z : ◌≡◌ {A = ℕ} 0 1 = cc in absurd (omega arith)
+none_both (Some g) p h = absurd (none-some g (sym h))
 
 front : (t : Phase) (rest : List ℕ) → refusal t rest ≡ None → Front t rest
 unfolding refusal
-front t [] f = let z : ◌≡◌ {A = ℕ} 0 1 = cc (at_end t [] refl) in absurd (omega arith)
+front t [] f = absurd (none-some _ (sym f ∙ at_end t [] refl))
 front t (k ∷ xs) f =
     let z = none_both (no_record (k ∷ xs)) (record_ground t k (body_at (k ∷ xs))) f in
     let m = none-missing (length (k ∷ xs)) k (body_size k) z.0 in
@@ -93,10 +94,10 @@ none_after : (d : Heading) (k : ℕ) (b : List ℕ) → record_ground (Behind d)
 unfolding record_ground
 none_after d k b g = grind (arith, nat_tests)
 
-pub opened : {h : Heading} {n : ℕ} {t : Phase} {rest : List ℕ} → Left h (suc n) t rest → (refusal t rest ≡ None) × Left h n (next t (kind_at rest) (body_at rest)) (behind rest)
+pub opened : {e : Phase} {z : List ℕ} {n : ℕ} {t : Phase} {rest : List ℕ} → Left e z (suc n) t rest → (refusal t rest ≡ None) × Left e z n (next t (kind_at rest) (body_at rest)) (behind rest)
 opened (then f l) = (f, l)
 
-pub ended : {h : Heading} {t : Phase} {rest : List ℕ} → Left h 0 t rest → (t ≡ Behind h) × (rest ≡ [])
+pub ended : {e : Phase} {z : List ℕ} {t : Phase} {rest : List ℕ} → Left e z 0 t rest → (t ≡ e) × (rest ≡ z)
 ended done = (refl, refl)
 
 pub end_same : (d h : Heading) → ◌≡◌ {A = Phase} (Behind d) (Behind h) → d ≡ h
@@ -108,13 +109,13 @@ not-ended p h e = let z : ◌≡◌ {A = ℕ} 0 1 = cc in omega arith
 not-started : (h : Heading) → ◌≡◌ {A = Phase} Before (Behind h) → ⊥
 not-started h e = let z : ◌≡◌ {A = ℕ} 0 1 = cc in omega arith
 
-after_end : (h d : Heading) (n : ℕ) (left : List ℕ) → Left h n (Behind d) left → (d ≡ h) × (left ≡ [])
+after_end : (h d : Heading) (n : ℕ) (left : List ℕ) → Left (Behind h) [] n (Behind d) left → (d ≡ h) × (left ≡ [])
 after_end h d zero left l = let e = ended l in (end_same d h e.0, e.1)
 after_end h d (suc n) left l = absurd (none_after d _ _ (front (Behind d) left (opened l).0).sound)
 
-module _ (h : Heading) (n : ℕ) (p : Advance) (le : p.sections ≤ p.head.ranks) (ih : (q : Advance) (rest : List ℕ) → q.sections ≤ q.head.ranks → Left h n (Between q) rest → Parse h q rest) where
+module _ (h : Heading) (n : ℕ) (p : Advance) (le : p.sections ≤ p.head.ranks) (ih : (q : Advance) (rest : List ℕ) → q.sections ≤ q.head.ranks → Left (Behind h) [] n (Between q) rest → Parse h q rest) where
   abbrev Step : ℕ → Type 0
-  Step k = (b left : List ℕ) → length b ≡ body_size k → record_ground (Between p) k b ≡ None → Left h n (next (Between p) k b) left → Parse h p (k ∷ (b ++ left))
+  Step k = (b left : List ℕ) → length b ≡ body_size k → record_ground (Between p) k b ≡ None → Left (Behind h) [] n (next (Between p) k b) left → Parse h p (k ∷ (b ++ left))
 
   at_head : Step 1
   at_head b left size g l = absurd (no_head p b g)
@@ -157,7 +158,7 @@ module _ (h : Heading) (n : ℕ) (p : Advance) (le : p.sections ≤ p.head.ranks
   at_pixel : (k : ℕ) → Acts k → Step k
   at_pixel k acts b left size g l =
       let told = pixel-told (kind_told k) p b (sym (acts.ground_is (Between p) b size) ∙ g) in
-      let r = ih (record { head = p.head; sections = p.sections; due = p.due + 1 }) left le (subst (λ (t : Phase). Left h n t left) (acts.next_is p b) l) in
+      let r = ih (record { head = p.head; sections = p.sections; due = p.due + 1 }) left le (subst (λ (t : Phase). Left (Behind h) [] n t left) (acts.next_is p b) l) in
       record {
         same = r.same;
         pieces = pixel k b ∷ r.pieces;
@@ -184,26 +185,24 @@ module _ (h : Heading) (n : ℕ) (p : Advance) (le : p.sections ≤ p.head.ranks
         spelled = ap (λ l. 6 ∷ l) stop.1;
       }
 
-  six : (k : ℕ) → Known k → (k ≡ 1) ⊎ ((k ≡ 2) ⊎ ((k ≡ 3) ⊎ ((k ≡ 4) ⊎ ((k ≡ 5) ⊎ (k ≡ 6)))))
-  six k h = grind arith
-
   any : (k : ℕ) → Known k → Step k
-  any k known =
-      ⊎_elim (λ (e : k ≡ 1). subst Step (sym e) at_head)
-      (⊎_elim (λ (e : k ≡ 2). subst Step (sym e) at_rank)
-      (⊎_elim (λ (e : k ≡ 3). subst Step (sym e) at_place)
-      (⊎_elim (λ (e : k ≡ 4). subst Step (sym e) (at_pixel 4 near_acts))
-      (⊎_elim (λ (e : k ≡ 5). subst Step (sym e) (at_pixel 5 cover_acts)) (λ (e : k ≡ 6). subst Step (sym e) at_last)))))
-      (six k known)
+  any zero known = absurd (omega (arith, known.0))
+  any (suc zero) known = at_head
+  any (suc (suc zero)) known = at_rank
+  any (suc (suc (suc zero))) known = at_place
+  any (suc (suc (suc (suc zero)))) known = at_pixel 4 near_acts
+  any (suc (suc (suc (suc (suc zero))))) known = at_pixel 5 cover_acts
+  any (suc (suc (suc (suc (suc (suc zero)))))) known = at_last
+  any (suc (suc (suc (suc (suc (suc (suc k))))))) known = absurd (omega (arith, known.1))
 
-parse : (h : Heading) (n : ℕ) (p : Advance) (rest : List ℕ) → p.sections ≤ p.head.ranks → Left h n (Between p) rest → Parse h p rest
+parse : (h : Heading) (n : ℕ) (p : Advance) (rest : List ℕ) → p.sections ≤ p.head.ranks → Left (Behind h) [] n (Between p) rest → Parse h p rest
 parse h zero p rest le l = absurd (not-ended p h (ended l).0)
 parse h (suc n) p rest le l =
     let o = opened l in
     let f = front (Between p) rest o.0 in
     subst (Parse h p) (sym f.split) (any h n p le (parse h n) (kind_at rest) f.known (body_at rest) (behind rest) f.size f.sound o.1)
 
-begins : (h : Heading) (m : ℕ) (bytes : List ℕ) → Left h m Before bytes → HasForm bytes (holding h bytes)
+begins : (h : Heading) (m : ℕ) (bytes : List ℕ) → Left (Behind h) [] m Before bytes → HasForm bytes (holding h bytes)
 begins h zero bytes l = absurd (not-started h (ended l).0)
 begins h (suc n) bytes l =
     let o = opened l in
