@@ -2,7 +2,7 @@
 use Rattle.std.specs.Prelude.{◌≡◌, ℕ, cond, ◌⊎◌, List, [], ◌∷◌, ◌++◌, Some, codes, decimal, ◌≢◌}
 use Rattle.tile.specs.declared.fault.Fault.{Fault}
 use Rattle.tile.specs.Texts.{fault_text}
-use Rattle.dump.specs.declared.stage.Head.{Head}
+use Rattle.dump.specs.Phases.{Heading}
 use Rattle.dump.specs.Bytes.{all_zero}
 use Rattle.dump.specs.Grammar.{Content, HasForm, Placed}
 use Rattle.dump.specs.Order.{Fails}
@@ -15,7 +15,7 @@ abbrev pub line_of : List ℕ → List ℕ
 line_of text = text ++ (10 ∷ [])
 
 -- what the head tells
-abbrev pub head_line : Head → List ℕ
+abbrev pub head_line : Heading → List ℕ
 head_line h = codes "dump: ranks " ++ (decimal h.ranks ++ (codes ", pixels " ++ (decimal h.pixels ++ (codes ", kind " ++ (decimal h.kind ++ codes "\n")))))
 
 -- a space before each word

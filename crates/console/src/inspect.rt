@@ -1,62 +1,66 @@
 // What is told of a dump.
-ghost use Rattle.std.specs.Prelude.{◌≡◌, ◌++◌, IfOk, string_bytes};
-ghost use Rattle.dump.specs.Bytes.{words_in};
+ghost use Rattle.std.specs.Prelude.{◌≡◌, Some, IfOk, string_bytes};
+ghost use Rattle.dump.specs.Phases.{heading};
 ghost use Rattle.dump.specs.Pixels.{item};
 ghost use Rattle.dump.specs.Reading.{content};
-ghost use Rattle.console.specs.Reports.{AnswerTo, Told, head_line, pixel_line, report, shown_pixel};
+ghost use Rattle.console.specs.Reports.{AnswerTo, Told, head_line, report, shown_pixel};
 
 use crate::hex::{HexFault, read_hex};
 use dump::dumps::{Dump, read_dump};
 use dump::pixels::PixelAt;
 use dump::stage::Head;
-use dump::words::{body_word, is_blank};
+use dump::words::{body_words, is_blank};
 use std::alloc::{AllocError, Global};
+use std::fmt;
+use std::fmt::Write;
 
-// The line of what the head tells.
-fn head_line(heap: Global, head: Head) -> Result<String, AllocError>
-    ensures { IfOk result (λ s. string_bytes s ≡ head_line head) }
-{
-    let Head {
-        ranks,
-        pixels,
-        kind,
-    } = head;
-    format!(in heap; "dump: ranks {ranks}, pixels {pixels}, kind {kind}\n")
+// The line of what a head tells.
+#[derive(Clone, Copy)]
+struct HeadLine(Head);
+
+impl fmt::Display for HeadLine {
+    ghost output = { λ x. Some (head_line (heading x.0)) };
+
+    fn fmt<W: fmt::Write>(&self, f: &mut fmt::Formatter<W>) -> fmt::Result {
+        let Head {
+            ranks,
+            pixels,
+            kind,
+        } = self.0;
+        let kind = kind.number();
+        write!(f, "dump: ranks {ranks}, pixels {pixels}, kind {kind}\n")
+    }
 }
 
-// The line of a pixel: rank, number and words.
-fn pixel_line(heap: Global, pixel: PixelAt) -> Result<String, AllocError>
-    ensures { IfOk result (λ s. string_bytes s ≡ pixel_line pixel.entry.rank pixel.entry.number (words_in pixel.entry.body.now)) }
-{
-    let PixelAt { rank, number, body } = pixel;
-    let mut line = format!(in heap; "  {rank}.{number}:")?;
-    for i in 0..body.len() / 4 {
-        if let Some(word) = body_word(body, i) {
-            line.push_str(format!(in heap; " {word}")?.as_str())?;
+// The line of a pixel with its rank, number and words; nothing of a blank one.
+#[derive(Clone, Copy)]
+struct PixelLine<'a>(PixelAt<'a>);
+
+impl<'a> fmt::Display for PixelLine<'a> {
+    ghost output = { λ x. Some (shown_pixel (item x.0)) };
+
+    fn fmt<W: fmt::Write>(&self, f: &mut fmt::Formatter<W>) -> fmt::Result {
+        let PixelAt { rank, number, body } = self.0;
+        if is_blank(body) {
+            return Ok(());
         }
+        write!(f, "  {rank}.{number}:")?;
+        for word in body_words(body) {
+            write!(f, " {word}")?;
+        }
+        write!(f, "\n")
     }
-    line.push('\n')?;
-    Ok(line)
-}
-
-// The line of a pixel, nothing of a blank one.
-fn line_of_pixel(heap: Global, pixel: PixelAt) -> Result<String, AllocError>
-    ensures { IfOk result (λ s. string_bytes s ≡ shown_pixel (item pixel.entry)) }
-{
-    if is_blank(pixel.body) {
-        return Ok(String::new(heap));
-    }
-    pixel_line(heap, pixel)
 }
 
 // All that is told of a dump that has the form.
 fn report_of(heap: Global, found: Dump) -> Result<String, AllocError>
     ensures { IfOk result (λ s. string_bytes s ≡ report (content found.entry)) }
 {
-    let Dump { head, mut pixels } = found;
-    let mut text = head_line(heap, head)?;
-    while let Some(pixel) = pixels.next() {
-        text.push_str(line_of_pixel(heap, pixel)?.as_str())?;
+    let Dump { head, pixels } = found;
+    let mut text = HeadLine(head).to_string(heap)?;
+    for pixel in pixels {
+        let line = PixelLine(pixel);
+        write!(text, "{line}")?;
     }
     Ok(text)
 }

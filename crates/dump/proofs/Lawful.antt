@@ -1,7 +1,8 @@
 -- The test of a body's words tells the pixels of the kind. Assumes nothing.
-use Rattle.std.proofs.Common.{◌≡◌, ℕ, ◌*◌, ◌<◌, ◌≤◌, Bool, true, false, List, length, is_some, Some, None, Option, sym, refl, ap, ◌∙◌, arith, le-leb}
-use Rattle.std.proofs.lemmas.Bool.{cond-true}
+use Rattle.std.proofs.Common.{◌≡◌, ℕ, ◌*◌, ◌<◌, ◌≤◌, List, length, is_some, Some, None, Option, sym, ap, ◌∙◌, arith, le-leb}
+use Rattle.std.proofs.lemmas.Bool.{cond-true, false_from_ne_true}
 use Rattle.std.proofs.lemmas.Bool.Decides.{nat_tests}
+use Rattle.std.proofs.lemmas.Option.{none-some}
 use Rattle.tile.specs.Kinds.{Kind, KindLaws}
 use Rattle.tile.specs.Named.{named_width, named_lawful}
 use Rattle.tile.specs.Words.{AreWords}
@@ -11,20 +12,14 @@ use Rattle.dump.proofs.Spelled.{length-words_in}
 pub few_words : (n : ℕ) → named_width n ≤ 5
 few_words n = grind (arith, nat_tests)
 
-not-true : (x : Bool) → (x ≡ true → ⊥) → x ≡ false
-not-true true h = absurd (h refl)
-not-true false h = refl
-
 module _ {P R : Type 0} (m : Kind P R) (laws : KindLaws m) (named : 0 < named_width m.number) where
   -- words are read exactly when they are lawful
   reads-told : (ws : List ℕ) (o : Option P) → length ws ≡ named_width m.number → AreWords ws → o ≡ m.reads ws → is_some o ≡ named_lawful m.number ws
   reads-told ws (Some p) long are e = sym ((laws.named named).allowed ws (p, laws.read_only ws p (sym e)))
   reads-told ws None long are e =
-      sym (not-true (named_lawful m.number ws) (λ t.
+      sym (false_from_ne_true (named_lawful m.number ws) (λ t.
       let q = (laws.named named).all_allowed ws (long ∙ sym (laws.named named).same_width) are t in
-      let got : None ≡ Some q.0 = e ∙ ap m.reads (sym q.1) ∙ laws.read_back q.0 in
-      let z : ◌≡◌ {A = ℕ} 0 1 = cc in
-      omega arith))
+      none-some q.0 (e ∙ ap m.reads (sym q.1) ∙ laws.read_back q.0)))
 
   pub body-told : (b : List ℕ) (o : Option P) → length b ≡ 4 * named_width m.number → o ≡ body_pixel m b → AreWords (words_in b) → is_some o ≡ named_lawful m.number (words_in b)
   body-told b o size read are =

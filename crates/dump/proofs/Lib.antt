@@ -1,5 +1,3 @@
-mod Answered
-mod Standing
 pub mod Spelled
 mod Lawful
 mod PixelRecords

@@ -1,12 +1,10 @@
 -- What a run of sound records up to END is by the grammar. Assumes nothing.
-use Rattle.std.proofs.Common.{◌≡◌, ℕ, zero, suc, ◌+◌, ◌*◌, ◌<◌, ◌≤◌, true, ◌⊎◌, List, [], ◌∷◌, ◌++◌, length, get_or, take, drop, Some, None, Option, sym, refl, ap, ◌∙◌, subst, ⊎_elim, one-add, arith, take-append-drop, length-take-le}
+use Rattle.std.proofs.Common.{◌≡◌, ℕ, zero, suc, ◌+◌, ◌*◌, ◌<◌, ◌≤◌, true, List, [], ◌∷◌, ◌++◌, length, get_or, take, drop, Some, None, Option, sym, refl, ap, ◌∙◌, subst, one-add, arith, take-append-drop, length-take-le}
 use Rattle.std.proofs.lemmas.Bool.Decides.{nat_tests}
+use Rattle.std.proofs.lemmas.Option.{none-some}
 use Rattle.tile.specs.declared.fault.Ground.{Ground}
 use Rattle.tile.specs.Named.{named_lawful}
-use Rattle.dump.specs.declared.stage.Head.{Head}
-use Rattle.dump.specs.declared.stage.Progress.{Progress}
-use Rattle.dump.specs.declared.stage.Stage.{Stage}
-use Rattle.dump.specs.declared.stage.Stage.TheVariants.{Start, Within, Ended}
+use Rattle.dump.specs.Phases.{Heading, Advance, Phase, Before, Between, Behind}
 use Rattle.dump.specs.Bytes.{half, words_in}
 use Rattle.dump.specs.Grammar.{Piece, place, pixel, pieces_then, sections_then, head_of, Upward, Sections, Limits, HasForm, Placed, all_numbered}
 use Rattle.dump.specs.Order.{record_ground, next, or_else, refusal, pixel_ground, Sound, none, more}
@@ -16,17 +14,17 @@ use Rattle.dump.proofs.Runs.{missing}
 use Rattle.dump.proofs.PixelRecords.{Acts, near_acts, cover_acts}
 use Rattle.dump.proofs.Held.{form-held, at_end}
 
--- n sound records are left, from a stage up to END
-pub data Left (h : Head) : ℕ → Stage → List ℕ → Type 0 where
-  done : Left h 0 (Ended h) []
-  then : {n : ℕ} {t : Stage} {rest : List ℕ} → refusal t rest ≡ None → Left h n (next t (kind_at rest) (body_at rest)) (behind rest) → Left h (suc n) t rest
+-- n sound records lead to a stage e with z left
+pub data Left (e : Phase) (z : List ℕ) : ℕ → Phase → List ℕ → Type 0 where
+  done : Left e z 0 e z
+  then : {n : ℕ} {t : Phase} {rest : List ℕ} → refusal t rest ≡ None → Left e z n (next t (kind_at rest) (body_at rest)) (behind rest) → Left e z (suc n) t rest
 
-pub join : {h : Head} {s : Stage} {bytes : List ℕ} {t : Stage} {rest : List ℕ} (n : ℕ) → Sound s bytes t rest → Left h n t rest → (m : ℕ) × Left h m s bytes
+pub join : {e : Phase} {z : List ℕ} {s : Phase} {bytes : List ℕ} {t : Phase} {rest : List ℕ} (n : ℕ) → Sound s bytes t rest → Left e z n t rest → (m : ℕ) × Left e z m s bytes
 join n none l = (n, l)
 join n (more run f) l = join (suc n) run (then f l)
 
 -- the record at the front of rest
-record Front (t : Stage) (rest : List ℕ) : Type 0 where
+record Front (t : Phase) (rest : List ℕ) : Type 0 where
   known : Known (kind_at rest)
   size : length (body_at rest) ≡ body_size (kind_at rest)
   sound : record_ground t (kind_at rest) (body_at rest) ≡ None
@@ -37,11 +35,11 @@ none-missing n k z h = (grind (arith, nat_tests), (grind (arith, nat_tests), gri
 
 none_both : (o p : Option Ground) → or_else o p ≡ None → (o ≡ None) × (p ≡ None)
 none_both None p h = (refl, h)
-none_both (Some g) p h = let z : ◌≡◌ {A = ℕ} 0 1 = cc in absurd (omega arith)
+none_both (Some g) p h = absurd (none-some g (sym h))
 
-front : (t : Stage) (rest : List ℕ) → refusal t rest ≡ None → Front t rest
+front : (t : Phase) (rest : List ℕ) → refusal t rest ≡ None → Front t rest
 unfolding refusal
-front t [] f = let z : ◌≡◌ {A = ℕ} 0 1 = cc (at_end t [] refl) in absurd (omega arith)
+front t [] f = absurd (none-some _ (sym f ∙ at_end t [] refl))
 front t (k ∷ xs) f =
     let z = none_both (no_record (k ∷ xs)) (record_ground t k (body_at (k ∷ xs))) f in
     let m = none-missing (length (k ∷ xs)) k (body_size k) z.0 in
@@ -54,7 +52,7 @@ front t (k ∷ xs) f =
     }
 
 -- what is left of a dump within its sections
-record Parse (h : Head) (p : Progress) (rest : List ℕ) : Type 0 where
+record Parse (h : Heading) (p : Advance) (rest : List ℕ) : Type 0 where
   same : p.head ≡ h
   pieces : List Piece
   sections : List (List Piece)
@@ -64,60 +62,60 @@ record Parse (h : Head) (p : Progress) (rest : List ℕ) : Type 0 where
   all : p.sections + length sections ≡ p.head.ranks
   spelled : rest ≡ pieces_then pieces (sections_then p.sections sections)
 
-no_head : (p : Progress) (b : List ℕ) → record_ground (Within p) 1 b ≡ None → ⊥
+no_head : (p : Advance) (b : List ℕ) → record_ground (Between p) 1 b ≡ None → ⊥
 unfolding record_ground
 no_head p b g = grind (arith, nat_tests)
 
-rank_told : (p : Progress) (b : List ℕ) → record_ground (Within p) 2 b ≡ None → (get_or b 0 0 ≡ p.sections) × (p.sections < p.head.ranks)
+rank_told : (p : Advance) (b : List ℕ) → record_ground (Between p) 2 b ≡ None → (get_or b 0 0 ≡ p.sections) × (p.sections < p.head.ranks)
 unfolding record_ground
 rank_told p b g = (grind (arith, nat_tests), grind (arith, nat_tests))
 
-place-told : (p : Progress) (b : List ℕ) → record_ground (Within p) 3 b ≡ None → (p.sections ≡ 0 → ⊥) × (p.due < half b 0) × (half b 0 < p.head.pixels)
+place-told : (p : Advance) (b : List ℕ) → record_ground (Between p) 3 b ≡ None → (p.sections ≡ 0 → ⊥) × (p.due < half b 0) × (half b 0 < p.head.pixels)
 unfolding record_ground
 place-told p b g = (λ e. grind (arith, nat_tests), grind (arith, nat_tests), grind (arith, nat_tests))
 
-end_told : (p : Progress) (b : List ℕ) → record_ground (Within p) 6 b ≡ None → p.head.ranks ≤ p.sections
+end_told : (p : Advance) (b : List ℕ) → record_ground (Between p) 6 b ≡ None → p.head.ranks ≤ p.sections
 unfolding record_ground
 end_told p b g = grind (arith, nat_tests)
 
-all_told : (k : ℕ) (b : List ℕ) → record_ground Start k b ≡ None → k ≡ 1
+all_told : (k : ℕ) (b : List ℕ) → record_ground Before k b ≡ None → k ≡ 1
 unfolding record_ground
 all_told k b g = grind (arith, nat_tests)
 
-head-told : (b : List ℕ) → record_ground Start 1 b ≡ None → Limits (head_of b)
+head-told : (b : List ℕ) → record_ground Before 1 b ≡ None → Limits (head_of b)
 unfolding record_ground
 head-told b g = record { ranks_in = (grind (arith, nat_tests), grind (arith, nat_tests)); pixels_in = (grind (arith, nat_tests), grind (arith, nat_tests)); kind_in = grind (arith, nat_tests) }
 
 -- a sound pixel record
-pixel-told : (n : ℕ) (p : Progress) (b : List ℕ) → pixel_ground n (Within p) b ≡ None → (p.sections ≡ 0 → ⊥) × (n ≡ p.head.kind) × (p.due < p.head.pixels) × (named_lawful n (words_in b) ≡ true)
+pixel-told : (n : ℕ) (p : Advance) (b : List ℕ) → pixel_ground n (Between p) b ≡ None → (p.sections ≡ 0 → ⊥) × (n ≡ p.head.kind) × (p.due < p.head.pixels) × (named_lawful n (words_in b) ≡ true)
 pixel-told n p b g = (λ e. grind (arith, nat_tests), grind (arith, nat_tests), grind (arith, nat_tests), grind (arith, nat_tests))
 
-none_after : (d : Head) (k : ℕ) (b : List ℕ) → record_ground (Ended d) k b ≡ None → ⊥
+none_after : (d : Heading) (k : ℕ) (b : List ℕ) → record_ground (Behind d) k b ≡ None → ⊥
 unfolding record_ground
 none_after d k b g = grind (arith, nat_tests)
 
-pub opened : {h : Head} {n : ℕ} {t : Stage} {rest : List ℕ} → Left h (suc n) t rest → (refusal t rest ≡ None) × Left h n (next t (kind_at rest) (body_at rest)) (behind rest)
+pub opened : {e : Phase} {z : List ℕ} {n : ℕ} {t : Phase} {rest : List ℕ} → Left e z (suc n) t rest → (refusal t rest ≡ None) × Left e z n (next t (kind_at rest) (body_at rest)) (behind rest)
 opened (then f l) = (f, l)
 
-pub ended : {h : Head} {t : Stage} {rest : List ℕ} → Left h 0 t rest → (t ≡ Ended h) × (rest ≡ [])
+pub ended : {e : Phase} {z : List ℕ} {t : Phase} {rest : List ℕ} → Left e z 0 t rest → (t ≡ e) × (rest ≡ z)
 ended done = (refl, refl)
 
-pub end_same : (d h : Head) → ◌≡◌ {A = Stage} (Ended d) (Ended h) → d ≡ h
+pub end_same : (d h : Heading) → ◌≡◌ {A = Phase} (Behind d) (Behind h) → d ≡ h
 end_same d h e = cc
 
-not-ended : (p : Progress) (h : Head) → ◌≡◌ {A = Stage} (Within p) (Ended h) → ⊥
+not-ended : (p : Advance) (h : Heading) → ◌≡◌ {A = Phase} (Between p) (Behind h) → ⊥
 not-ended p h e = let z : ◌≡◌ {A = ℕ} 0 1 = cc in omega arith
 
-not-started : (h : Head) → ◌≡◌ {A = Stage} Start (Ended h) → ⊥
+not-started : (h : Heading) → ◌≡◌ {A = Phase} Before (Behind h) → ⊥
 not-started h e = let z : ◌≡◌ {A = ℕ} 0 1 = cc in omega arith
 
-after_end : (h d : Head) (n : ℕ) (left : List ℕ) → Left h n (Ended d) left → (d ≡ h) × (left ≡ [])
+after_end : (h d : Heading) (n : ℕ) (left : List ℕ) → Left (Behind h) [] n (Behind d) left → (d ≡ h) × (left ≡ [])
 after_end h d zero left l = let e = ended l in (end_same d h e.0, e.1)
-after_end h d (suc n) left l = absurd (none_after d _ _ (front (Ended d) left (opened l).0).sound)
+after_end h d (suc n) left l = absurd (none_after d _ _ (front (Behind d) left (opened l).0).sound)
 
-module _ (h : Head) (n : ℕ) (p : Progress) (le : p.sections ≤ p.head.ranks) (ih : (q : Progress) (rest : List ℕ) → q.sections ≤ q.head.ranks → Left h n (Within q) rest → Parse h q rest) where
+module _ (h : Heading) (n : ℕ) (p : Advance) (le : p.sections ≤ p.head.ranks) (ih : (q : Advance) (rest : List ℕ) → q.sections ≤ q.head.ranks → Left (Behind h) [] n (Between q) rest → Parse h q rest) where
   abbrev Step : ℕ → Type 0
-  Step k = (b left : List ℕ) → length b ≡ body_size k → record_ground (Within p) k b ≡ None → Left h n (next (Within p) k b) left → Parse h p (k ∷ (b ++ left))
+  Step k = (b left : List ℕ) → length b ≡ body_size k → record_ground (Between p) k b ≡ None → Left (Behind h) [] n (next (Between p) k b) left → Parse h p (k ∷ (b ++ left))
 
   at_head : Step 1
   at_head b left size g l = absurd (no_head p b g)
@@ -159,8 +157,8 @@ module _ (h : Head) (n : ℕ) (p : Progress) (le : p.sections ≤ p.head.ranks) 
 
   at_pixel : (k : ℕ) → Acts k → Step k
   at_pixel k acts b left size g l =
-      let told = pixel-told (kind_told k) p b (sym (acts.ground_is (Within p) b size) ∙ g) in
-      let r = ih (record { head = p.head; sections = p.sections; due = p.due + 1 }) left le (subst (λ (t : Stage). Left h n t left) (acts.next_is p b) l) in
+      let told = pixel-told (kind_told k) p b (sym (acts.ground_is (Between p) b size) ∙ g) in
+      let r = ih (record { head = p.head; sections = p.sections; due = p.due + 1 }) left le (subst (λ (t : Phase). Left (Behind h) [] n t left) (acts.next_is p b) l) in
       record {
         same = r.same;
         pieces = pixel k b ∷ r.pieces;
@@ -187,33 +185,31 @@ module _ (h : Head) (n : ℕ) (p : Progress) (le : p.sections ≤ p.head.ranks) 
         spelled = ap (λ l. 6 ∷ l) stop.1;
       }
 
-  six : (k : ℕ) → Known k → (k ≡ 1) ⊎ ((k ≡ 2) ⊎ ((k ≡ 3) ⊎ ((k ≡ 4) ⊎ ((k ≡ 5) ⊎ (k ≡ 6)))))
-  six k h = grind arith
-
   any : (k : ℕ) → Known k → Step k
-  any k known =
-      ⊎_elim (λ (e : k ≡ 1). subst Step (sym e) at_head)
-      (⊎_elim (λ (e : k ≡ 2). subst Step (sym e) at_rank)
-      (⊎_elim (λ (e : k ≡ 3). subst Step (sym e) at_place)
-      (⊎_elim (λ (e : k ≡ 4). subst Step (sym e) (at_pixel 4 near_acts))
-      (⊎_elim (λ (e : k ≡ 5). subst Step (sym e) (at_pixel 5 cover_acts)) (λ (e : k ≡ 6). subst Step (sym e) at_last)))))
-      (six k known)
+  any zero known = absurd (omega (arith, known.0))
+  any (suc zero) known = at_head
+  any (suc (suc zero)) known = at_rank
+  any (suc (suc (suc zero))) known = at_place
+  any (suc (suc (suc (suc zero)))) known = at_pixel 4 near_acts
+  any (suc (suc (suc (suc (suc zero))))) known = at_pixel 5 cover_acts
+  any (suc (suc (suc (suc (suc (suc zero)))))) known = at_last
+  any (suc (suc (suc (suc (suc (suc (suc k))))))) known = absurd (omega (arith, known.1))
 
-parse : (h : Head) (n : ℕ) (p : Progress) (rest : List ℕ) → p.sections ≤ p.head.ranks → Left h n (Within p) rest → Parse h p rest
+parse : (h : Heading) (n : ℕ) (p : Advance) (rest : List ℕ) → p.sections ≤ p.head.ranks → Left (Behind h) [] n (Between p) rest → Parse h p rest
 parse h zero p rest le l = absurd (not-ended p h (ended l).0)
 parse h (suc n) p rest le l =
     let o = opened l in
-    let f = front (Within p) rest o.0 in
+    let f = front (Between p) rest o.0 in
     subst (Parse h p) (sym f.split) (any h n p le (parse h n) (kind_at rest) f.known (body_at rest) (behind rest) f.size f.sound o.1)
 
-begins : (h : Head) (m : ℕ) (bytes : List ℕ) → Left h m Start bytes → HasForm bytes (holding h bytes)
+begins : (h : Heading) (m : ℕ) (bytes : List ℕ) → Left (Behind h) [] m Before bytes → HasForm bytes (holding h bytes)
 begins h zero bytes l = absurd (not-started h (ended l).0)
 begins h (suc n) bytes l =
     let o = opened l in
-    let f = front Start bytes o.0 in
+    let f = front Before bytes o.0 in
     let b = body_at bytes in
     let one = all_told (kind_at bytes) b f.sound in
-    let told = head-told b (subst (λ k. record_ground Start k b ≡ None) one f.sound) in
+    let told = head-told b (subst (λ k. record_ground Before k b ≡ None) one f.sound) in
     let q = parse h n (record { head = head_of b; sections = 0; due = 0 }) (behind bytes) (omega arith) o.1 in
     let start : behind bytes ≡ sections_then 0 q.sections = q.spelled ∙ ap (λ ps. pieces_then ps (sections_then 0 q.sections)) (q.begun refl) in
     let made : HasForm bytes (record { head = head_of b; pixels = all_numbered 0 q.sections }) = record {
@@ -228,7 +224,7 @@ begins h (suc n) bytes l =
       holds = refl;
     } in
     let held = sym (form-held bytes _ made) in
-    subst (λ (x : Head). HasForm bytes (holding x bytes)) q.same (subst (λ (ps : List Placed). HasForm bytes (record { head = head_of b; pixels = ps })) held made)
+    subst (λ (x : Heading). HasForm bytes (holding x bytes)) q.same (subst (λ (ps : List Placed). HasForm bytes (record { head = head_of b; pixels = ps })) held made)
 
-pub reads_form : (bytes : List ℕ) (h : Head) → Sound Start bytes (Ended h) [] → HasForm bytes (holding h bytes)
+pub reads_form : (bytes : List ℕ) (h : Heading) → Sound Before bytes (Behind h) [] → HasForm bytes (holding h bytes)
 reads_form bytes h run = let j = join 0 run done in begins h j.0 bytes j.1

@@ -1,6 +1,6 @@
 -- A dump's pixels stand in order of rank and number. Assumes nothing.
 use Rattle.std.proofs.Common.{◌≡◌, ℕ, ◌+◌, ◌*◌, ◌<◌, ◌≤◌, List, [], ◌∷◌, ◌++◌, sym, refl, subst, inl, inr, ⊎_elim, arith}
-use Rattle.dump.specs.declared.stage.Head.{Head}
+use Rattle.dump.specs.Phases.{Heading}
 use Rattle.dump.specs.Grammar.{Piece, place, pixel, Upward, Sections, HasForm, Content, Placed, numbered, all_numbered, Rising}
 
 -- what rises from a later place rises from an earlier one
@@ -12,12 +12,12 @@ later-number : (r i j : ℕ) (ps : List Placed) → i ≤ j → Rising r j ps �
 later-number r i j [] le h = tt
 later-number r i j (p ∷ ps) le h = (⊎_elim (λ (l : r < p.rank). inl l) (λ (e : (r ≡ p.rank) × (j ≤ p.number)). inr (e.0, omega (arith, e.1))) h.0, h.1)
 
-pieces_rise : (h : Head) (r due : ℕ) (ps : List Piece) (rest : List Placed) → Upward h due ps → Rising (r + 1) 0 rest → Rising r due (numbered r due ps ++ rest)
+pieces_rise : (h : Heading) (r due : ℕ) (ps : List Piece) (rest : List Placed) → Upward h due ps → Rising (r + 1) 0 rest → Rising r due (numbered r due ps ++ rest)
 pieces_rise h r due [] rest up on = later_rank r due rest on
 pieces_rise h r due (place a b ∷ ps) rest up on = later-number r due (a * 256 + b) (numbered r (a * 256 + b) ps ++ rest) (omega (arith, up.0)) (pieces_rise h r (a * 256 + b) ps rest up.2 on)
 pieces_rise h r due (pixel k b ∷ ps) rest up on = (inr (refl, omega arith), pieces_rise h r (due + 1) ps rest up.4 on)
 
-sections_rise : (h : Head) (r : ℕ) (ss : List (List Piece)) → Sections h ss → Rising r 0 (all_numbered r ss)
+sections_rise : (h : Heading) (r : ℕ) (ss : List (List Piece)) → Sections h ss → Rising r 0 (all_numbered r ss)
 sections_rise h r [] each = tt
 sections_rise h r (ps ∷ ss) each = pieces_rise h r 0 ps (all_numbered (r + 1) ss) each.0 (sections_rise h (r + 1) ss each.1)
 

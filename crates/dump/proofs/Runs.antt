@@ -1,17 +1,15 @@
 -- One more record of a run. Assumes nothing.
-use Rattle.std.proofs.Common.{◌≡◌, ℕ, ◌+◌, ◌≤◌, not, ◌&&◌, ltb, leb, List, [], ◌∷◌, ◌++◌, length, get_or, take, drop, Some, None, Option, sym, ap, ◌∙◌, subst, ap₂, arith, length-append, drop-drop}
+use Rattle.std.proofs.Common.{◌≡◌, ℕ, ◌+◌, ◌≤◌, not, ◌&&◌, ltb, leb, List, [], ◌∷◌, ◌++◌, length, get_or, take, drop, Some, None, Option, sym, ap, ◌∙◌, subst, ap₂, arith, length-append}
 use Rattle.std.proofs.lemmas.List.{take_at}
 use Rattle.std.proofs.lemmas.Bool.Decides.{nat_tests}
 use Rattle.tile.specs.declared.fault.Ground.{Ground}
 use Rattle.tile.specs.declared.fault.Ground.TheVariants.{UnknownRecord, CutShort}
 use Rattle.tile.specs.Answers.{first}
-use Rattle.dump.specs.declared.reader.Record.{Record}
-use Rattle.dump.specs.declared.reader.Record.TheVariants.{Head, Rank, Place, Near, Cover, End}
-use Rattle.dump.specs.declared.reader.Item.{Item}
-use Rattle.dump.specs.declared.stage.Stage.{Stage}
-use Rattle.dump.specs.declared.stage.Stage.TheVariants.{Start}
-use Rattle.dump.specs.Order.{record_ground, next, or_else, refusal, Sound, more}
-use Rattle.dump.specs.Records.{Known, body_size, kind_of, body_of, bytes_of, kind_at, body_at, behind, no_record, Leads, Stands}
+use Rattle.dump.specs.declared.record.Record.{Record}
+use Rattle.dump.specs.declared.record.Record.TheVariants.{Head, Rank, Place, Near, Cover, End}
+use Rattle.dump.specs.Phases.{Phase}
+use Rattle.dump.specs.Order.{record_ground, next, or_else, refusal}
+use Rattle.dump.specs.Records.{Known, body_size, kind_of, body_of, bytes_of, kind_at, body_at, behind, no_record, Leads}
 
 known : (r : Record) → Known (kind_of r)
 known (Head b) = (omega arith, omega arith)
@@ -46,24 +44,16 @@ module _ {r : Record} {rest : List ℕ} (l : Leads r rest) where
       let some : 1 + body_size (kind_at rest) ≤ length rest = omega arith in
       missing-none (length rest) (kind_at rest) (body_size (kind_at rest)) some (subst Known (sym e) k)
 
-  pub refusal-there : (s : Stage) → refusal s rest ≡ record_ground s (kind_of r) (body_of r)
+  pub refusal-there : (s : Phase) → refusal s rest ≡ record_ground s (kind_of r) (body_of r)
   unfolding refusal
   refusal-there s = ap (λ o. or_else o (record_ground s (kind_at rest) (body_at rest))) there ∙ ap₂ (record_ground s) kind_is body_is
 
-  pub next-there : (s : Stage) → next s (kind_at rest) (body_at rest) ≡ next s (kind_of r) (body_of r)
+  pub next-there : (s : Phase) → next s (kind_at rest) (body_at rest) ≡ next s (kind_of r) (body_of r)
   next-there s = ap₂ (next s) kind_is body_is
 
   pub behind-there : behind rest ≡ drop (1 + body_size (kind_of r)) rest
   behind-there = ap (λ k. drop (1 + body_size k) rest) kind_is
 
-pub refusal-missing : (s : Stage) (rest : List ℕ) (g : Ground) → no_record rest ≡ Some g → refusal s rest ≡ Some g
+pub refusal-missing : (s : Phase) (rest : List ℕ) (g : Ground) → no_record rest ≡ Some g → refusal s rest ≡ Some g
 unfolding refusal
 refusal-missing s rest g h = ap (λ o. or_else o (record_ground s (kind_at rest) (body_at rest))) h
-
-pub step : (bytes : List ℕ) (at after : ℕ) (item : Item) (s t : Stage) → Stands bytes at item after → Sound Start bytes s (drop at bytes) → record_ground s (kind_of item.content) (body_of item.content) ≡ None → t ≡ next s (kind_of item.content) (body_of item.content) → Sound Start bytes t (drop after bytes)
-step bytes at after item s t h run sound to =
-    let l = h.leads in
-    let one = more run (refusal-there l s ∙ sound) in
-    let stage = next-there l s ∙ sym to in
-    let left = behind-there l ∙ drop-drop (1 + body_size (kind_of item.content)) at bytes ∙ ap (λ n. drop n bytes) (sym h.next) in
-    subst (λ x. Sound Start bytes x (drop after bytes)) stage (subst (Sound Start bytes (next s (kind_at (drop at bytes)) (body_at (drop at bytes)))) left one)

@@ -1,7 +1,7 @@
 -- The form of a dump as a grammar: HEAD, a section for each rank in order, END and no more. Assumes nothing.
 use Rattle.std.specs.Prelude.{◌≡◌, ℕ, ◌+◌, ◌*◌, ◌<◌, ◌≤◌, true, cond, ◌&&◌, ◌⊎◌, List, [], ◌∷◌, ◌++◌, length, replicate, ◌==◌, slice_index}
 use Rattle.tile.specs.Named.{named_width, named_lawful}
-use Rattle.dump.specs.declared.stage.Head.{Head}
+use Rattle.dump.specs.Phases.{Heading}
 use Rattle.dump.specs.Bytes.{half, words_in}
 use Rattle.dump.specs.Records.{body_size, kind_told}
 
@@ -13,7 +13,7 @@ pub record Placed : Type 0 where
 
 -- what a dump holds
 pub record Content : Type 0 where
-  pub head : Head
+  pub head : Heading
   pub pixels : List Placed
 
 -- what a section is made of: the two bytes of the next pixel's number, or a pixel record by its kind and body
@@ -33,10 +33,10 @@ sections_then r [] = 6 ∷ []
 sections_then r (ps ∷ ss) = 2 ∷ r ∷ pieces_then ps (sections_then (r + 1) ss)
 
 -- the body of HEAD: ranks, pixels in two bytes, kind
-abbrev pub head_of : List ℕ → Head
+abbrev pub head_of : List ℕ → Heading
 head_of b = record { ranks = slice_index b 0; pixels = half b 1; kind = slice_index b 3 }
 
-module _ (h : Head) where
+module _ (h : Heading) where
   -- the pieces run upward from the pixel due, within the tile, each pixel lawful and of HEAD's kind
   abbrev pub Upward : ℕ → List Piece → Type 0
   Upward due [] = Unit {0}
@@ -60,7 +60,7 @@ all_numbered r [] = []
 all_numbered r (ps ∷ ss) = numbered r 0 ps ++ all_numbered (r + 1) ss
 
 -- 1 to 32 ranks, 1 to 1,024 pixels, a pixel kind that has a name
-pub record Limits (h : Head) : Type 0 where
+pub record Limits (h : Heading) : Type 0 where
   pub ranks_in : (1 ≤ h.ranks) × (h.ranks ≤ 32)
   pub pixels_in : (1 ≤ h.pixels) × (h.pixels ≤ 1024)
   pub kind_in : 1 ≤ named_width h.kind
@@ -87,13 +87,13 @@ abbrev pub picture : Content → ℕ → ℕ → List ℕ
 picture c r i = shown (replicate (named_width c.head.kind) 0) c.pixels r i
 
 -- a pixel lies within the limits of the head, and has lawful words of its kind
-pub record Inside (h : Head) (p : Placed) : Type 0 where
+pub record Inside (h : Heading) (p : Placed) : Type 0 where
   pub rank_in : p.rank < h.ranks
   pub number_in : p.number < h.pixels
   pub long : length p.words ≡ named_width h.kind
   pub law : named_lawful h.kind p.words ≡ true
 
-abbrev pub AllInside : Head → List Placed → Type 0
+abbrev pub AllInside : Heading → List Placed → Type 0
 AllInside h [] = Unit {0}
 AllInside h (p ∷ ps) = Inside h p × AllInside h ps
 

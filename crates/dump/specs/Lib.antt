@@ -1,5 +1,8 @@
 pub mod Bytes
 pub mod Records
+pub mod RecordKinds
+pub mod Items
+pub mod Phases
 pub mod Grammar
 pub mod Order
 pub mod Pixels

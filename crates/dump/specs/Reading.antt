@@ -2,17 +2,17 @@
 use Rattle.std.specs.Prelude.{◌≡◌, ℕ, List}
 use Rattle.tile.specs.declared.fault.Fault.{Fault}
 use Rattle.dump.specs.declared.dumps.Dump.{Dump}
-use Rattle.dump.specs.declared.stage.Head.{Head}
+use Rattle.dump.specs.Phases.{Heading, heading}
 use Rattle.dump.specs.Grammar.{AllInside, Content, HasForm, Rising}
 use Rattle.dump.specs.Order.{Fails}
 use Rattle.dump.specs.Pixels.{left, pixels_in}
 
 -- what a dump that was read holds
 abbrev pub content : Dump → Content
-content d = record { head = d.head; pixels = left d.pixels }
+content d = record { head = heading d.head; pixels = left d.pixels }
 
 -- the head, with the pixels that the bytes place
-abbrev pub holding : Head → List ℕ → Content
+abbrev pub holding : Heading → List ℕ → Content
 holding h bytes = record { head = h; pixels = pixels_in bytes }
 
 -- the bytes have the form and hold c

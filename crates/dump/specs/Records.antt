@@ -4,9 +4,8 @@ use Rattle.tile.specs.declared.fault.Ground.{Ground}
 use Rattle.tile.specs.declared.fault.Ground.TheVariants.{UnknownRecord, CutShort}
 use Rattle.tile.specs.Answers.{first}
 use Rattle.tile.specs.Named.{named_width}
-use Rattle.dump.specs.declared.reader.Record.{Record}
-use Rattle.dump.specs.declared.reader.Record.TheVariants.{Head, Rank, Place, Near, Cover, End}
-use Rattle.dump.specs.declared.reader.Item.{Item}
+use Rattle.dump.specs.declared.record.Record.{Record}
+use Rattle.dump.specs.declared.record.Record.TheVariants.{Head, Rank, Place, Near, Cover, End}
 
 -- HEAD, RANK, PLACE, the pixel records and END
 abbrev pub Known : ℕ → Type 0
@@ -44,13 +43,6 @@ bytes_of r = kind_of r ∷ body_of r
 pub record Leads (r : Record) (rest : List ℕ) : Type 0 where
   pub whole : length (body_of r) ≡ body_size (kind_of r)
   pub front : rest ≡ bytes_of r ++ drop (1 + body_size (kind_of r)) rest
-
--- item stands at the cursor `at`, and ends at `after`
-pub record Stands (bytes : List ℕ) (at : ℕ) (item : Item) (after : ℕ) : Type 0 where
-  pub offset : item.offset ≡ at
-  pub leads : Leads item.content (drop at bytes)
-  pub next : after ≡ at + (1 + body_size (kind_of item.content))
-  pub within : after ≤ length bytes
 
 -- kind and body of what stands at the front, and what lies behind it
 abbrev pub kind_at : List ℕ → ℕ

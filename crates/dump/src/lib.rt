@@ -6,5 +6,7 @@ pub mod dumps;
 mod order;
 pub mod pixels;
 pub mod reader;
+mod record;
 pub mod stage;
+mod walk;
 pub mod words;

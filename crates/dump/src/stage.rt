@@ -1,11 +1,12 @@
 // How far a dump has been read.
+use tile::named::PixelKind;
 
 // What HEAD tells: the ranks, the pixels of each, and their kind.
 #[derive(Clone, Copy)]
 pub struct Head {
     pub ranks: u32,
     pub pixels: u32,
-    pub kind: u8,
+    pub kind: PixelKind,
 }
 
 // Within the sections: how many have begun, and the number of the pixel due next.

@@ -1,19 +1,54 @@
 // The words that a pixel record's body spells, and the pixel whose words they are.
-ghost use Rattle.std.specs.Prelude.{◌≡◌, ℕ, ◌+◌, ◌*◌, ◌/◌, ◌≤◌, length, take};
+ghost use Rattle.std.specs.Prelude.{◌≡◌, ◌/◌, ◌≤◌, length, take, slice_get};
+ghost use Rattle.std.specs.Iterator.{YieldsFirst, item_count};
 ghost use Rattle.tile.specs.Words.{AreWords};
-ghost use Rattle.dump.specs.Bytes.{all_zero, body_pixel, word, word_of, words_in};
+ghost use Rattle.dump.specs.Bytes.{all_zero, body_pixel, words_in, words_left};
 
+use std::array;
 use tile::kind::Pixel;
 
 // The most words that a pixel record spells.
 pub const MOST_WORDS: usize = 5;
 
-// The word at `at`, high byte first.
-fn word_at(body: &[u8], at: usize) -> u32
-    requires { at + 4 ≤ length body.now }
-    ensures { result ≡ word body.now at }
+// The words of a body that are still to come.
+#[derive(Drop)]
+pub struct BodyWords<'a> {
+    rest: &'a [u8],
+}
+
+impl<'a> Iterator for BodyWords<'a> {
+    type Item = u32;
+
+    ghost next_gives = { YieldsFirst words_left };
+
+    ghost remaining = { item_count words_left };
+
+    fn next(&mut self) -> Option<u32> {
+        let (word, rest) = self.rest.split_first_chunk::<4>()?;
+        self.rest = rest;
+        Some(u32::from_be_bytes(*word))
+    }
+}
+
+// The words that a body spells, high byte first.
+pub fn body_words(body: &[u8]) -> BodyWords<'_>
+    ensures { words_left result ≡ words_in body.now }
 {
-    u32::from_be_bytes([body[at], body[at + 1], body[at + 2], body[at + 3]])
+    BodyWords { rest: body }
+}
+
+// The word with this index, if the body spells so many.
+pub fn body_word(body: &[u8], index: usize) -> Option<u32>
+    ensures { result ≡ slice_get (words_in body.now) index }
+{
+    body_words(body).nth(index)
+}
+
+// Whether the body spells only zero words, as blank alone does.
+pub fn is_blank(body: &[u8]) -> bool
+    ensures { result ≡ all_zero (words_in body.now) }
+{
+    body_words(body).all(|word| word == 0)
 }
 
 // The words of a body, then zeros.
@@ -22,33 +57,7 @@ fn spelled(body: &[u8]) -> [u32; MOST_WORDS]
     ensures size { length result ≡ 5 }
     ensures words { take (length body.now / 4) result ≡ words_in body.now }
 {
-    let mut words = [0; MOST_WORDS];
-    for i in 0..body.len() / 4 {
-        words[i] = word_at(body, 4 * i);
-    }
-    words
-}
-
-// The word with this index, if the body spells so many.
-pub fn body_word(body: &[u8], index: usize) -> Option<u32>
-    ensures { result ≡ word_of (words_in body.now) index }
-{
-    if index >= body.len() / 4 {
-        return None;
-    }
-    Some(word_at(body, 4 * index))
-}
-
-// Whether the body spells only zero words, as blank alone does.
-pub fn is_blank(body: &[u8]) -> bool
-    ensures { result ≡ all_zero (words_in body.now) }
-{
-    for i in 0..body.len() / 4 {
-        if word_at(body, 4 * i) != 0 {
-            return false;
-        }
-    }
-    true
+    array::from_fn(|index| body_word(body, index).unwrap_or(0))
 }
 
 // The pixel whose words the body of a pixel record spells.

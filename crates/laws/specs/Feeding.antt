@@ -5,7 +5,7 @@ use Rattle.tile.specs.declared.fault.Ground.{Ground}
 use Rattle.tile.specs.declared.fault.Ground.TheVariants.{TooShort, Unsuited, NoDelivery}
 use Rattle.tile.specs.Faults.{no_rank}
 use Rattle.tile.specs.Kinds.{Kind}
-use Rattle.dump.specs.declared.stage.Head.{Head}
+use Rattle.dump.specs.Phases.{Heading}
 use Rattle.dump.specs.Grammar.{Content, HasForm, picture}
 use Rattle.dump.specs.Order.{Fails}
 use Rattle.laws.specs.declared.records.DeliveryState.TheVariants.{Closed}
@@ -24,7 +24,7 @@ some_or d None = d
 some_or d (Some a) = a
 
 -- the dump is for another number of ranks or pixels, or of another kind
-abbrev pub other_dump : Head → ℕ → ℕ → ℕ → Bool
+abbrev pub other_dump : Heading → ℕ → ℕ → ℕ → Bool
 other_dump h ranks pixels kind = (not (h.ranks == ranks) || not (h.pixels == pixels)) || not (h.kind == kind)
 
 module _ {X R : Type 0} (K : Kind X R) where
@@ -32,7 +32,7 @@ module _ {X R : Type 0} (K : Kind X R) where
   abbrev pub dump_pixel : Content → ℕ → ℕ → X
   dump_pixel c r x = some_or K.blank (K.reads (picture c r x))
 
-  abbrev pub feed_grounds : Planes → Machine X → Head → List (Ground × Bool)
+  abbrev pub feed_grounds : Planes → Machine X → Heading → List (Ground × Bool)
   feed_grounds b S h =
       (TooShort, short b S.ranks S.pixels) ∷
       (Unsuited, other_dump h S.ranks S.pixels K.number) ∷

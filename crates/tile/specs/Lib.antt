@@ -4,6 +4,7 @@ pub mod Examples
 pub mod Faults
 pub mod Kinds
 pub mod Named
+pub mod NamedKinds
 pub mod Near
 pub mod Rows
 pub mod Texts

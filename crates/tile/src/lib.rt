@@ -7,6 +7,7 @@ pub mod examples;
 pub mod fault;
 pub mod fault_text;
 pub mod kind;
+pub mod named;
 pub mod near;
 pub mod near_kind;
 pub mod rows;

@@ -1,10 +1,7 @@
-use Rattle.std.proofs.Common.{◌≡◌, ◌++◌, length, string_bytes}
+use Rattle.std.proofs.Common.{◌≡◌, ◌++◌, string_bytes}
 use Rattle.dump.specs.Pixels.{left}
 use Rattle.console.specs.Reports.{pixel_lines}
 use Rattle.console.proofs.inspect.report_of.Given as goal
 
 abbrev pub invariant-loop-pixel : goal.invariant-loop-pixel
-invariant-loop-pixel l = string_bytes l.text ++ pixel_lines (left l.pixels) ≡ string_bytes l.initial.text ++ pixel_lines (left l.initial.pixels)
-
-abbrev pub decreases-loop-pixel : goal.decreases-loop-pixel
-decreases-loop-pixel l = length (left l.pixels)
+invariant-loop-pixel l = string_bytes l.text ++ pixel_lines (left l.pixel-iterator) ≡ string_bytes l.initial.text ++ pixel_lines (left l.initial.pixel-iterator)

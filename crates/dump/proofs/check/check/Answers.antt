@@ -1,63 +1,42 @@
-use Rattle.std.proofs.Common.{◌≡◌, ℕ, ◌-◌, ◌≤◌, false, List, [], length, drop, Some, sym, ap, ◌∙◌, subst, arith, length-drop}
-use Rattle.tile.specs.declared.fault.Fault.{Fault}
+use Rattle.std.proofs.Common.{◌≡◌, ◌-◌, length, ap, ◌∙◌, arith, length-drop}
+use Rattle.std.proofs.lemmas.List.{nil_from_length}
 use Rattle.tile.specs.declared.fault.Fault.TheVariants.{Dump}
-use Rattle.tile.specs.declared.fault.Ground.{Ground}
-use Rattle.dump.specs.declared.stage.Stage.{Stage}
-use Rattle.dump.specs.declared.stage.Stage.TheVariants.{Start, Ended}
-use Rattle.dump.specs.Order.{Sound, none, finished, rank_told, refusal}
-use Rattle.dump.specs.Reading.{Refused}
-use Rattle.dump.specs.Records.{Stands, no_record}
-use Rattle.dump.proofs.Answered.{ok_told, err_told}
+use Rattle.dump.specs.Phases.{phase}
+use Rattle.dump.specs.Order.{none, more, rank_told}
+use Rattle.dump.specs.Pixels.{ahead}
 use Rattle.dump.proofs.Exact.{accepts, refuses}
-use Rattle.dump.proofs.Runs.{step, refusal-missing, refusal-there}
-use Rattle.dump.proofs.Standing.{nil_of}
+use Rattle.dump.proofs.Held.{shrinks}
 use Rattle.dump.proofs.check.check.Goals as goal
 
--- a record refused at the cursor
-refused-at : (bytes : List ℕ) (at : ℕ) (s : Stage) (g : Ground) (f : Fault) → at ≤ length bytes → Sound Start bytes s (drop at bytes) → finished s (length bytes - at) ≡ false → refusal s (drop at bytes) ≡ Some g → f ≡ Dump g (rank_told s g) at → Refused bytes f
-refused-at bytes at s g f within before going refused is =
-    let place : at ≡ length bytes - length (drop at bytes) = omega (arith, length-drop at bytes) in
-    refuses bytes f (record {
-      stage = s;
-      rest = drop at bytes;
-      why = g;
-      before = before;
-      going_on = ap (finished s) (length-drop at bytes) ∙ going;
-      refused = refused;
-      fault_is = is ∙ ap (Dump g (rank_told s g)) place;
-    })
-
 pub records-init : goal.records-init
-records-init c = let new = c.new-reader.ensures in (new.bytes, omega (arith, new.start), rw new.start none)
+records-init c = let new = c.new-walk.ensures in record { same = new.bytes; sound = rw (new.start, new.ahead) none }
 
 pub returns-in-Some : goal.returns-in-Some
-returns-in-Some c =
-    let bytes = c.args.bytes.now in
-    let at = c.records.reader.at in
-    let done = c.in-Some.ensures in
-    let left : [] ≡ drop at bytes = nil_of (drop at bytes) (length-drop at bytes ∙ done.1) in
-    accepts bytes c.in-Some.head (subst (Sound Start bytes (Ended c.in-Some.head)) (sym left) (subst (λ (s : Stage). Sound Start bytes s (drop at bytes)) done.0 c.records.invariant.2))
+returns-in-Some c = let done = c.in-Some.ensures in accepts _ _ (rw (done.0, nil_from_length _ done.1) at c.records.invariant.sound)
 
 pub returns-in-Err : goal.returns-in-Err
 returns-in-Err c =
+    let w = c.records.walk in
     let inv = c.records.invariant in
-    let at = c.records.reader.at in
-    let none-there = ap (λ (b : List ℕ). no_record (drop at b)) (sym inv.0) ∙ c.in-Err.ensures.read.0 in
-    refused-at c.args.bytes.now at c.records.stage c.in-Err.ground _ inv.1 inv.2 c.in_default.ensures (refusal-missing _ _ _ none-there) c.fault_at.ensures
+    let refused = c.in-Err.ensures in
+    let within = w.reader.within in
+    let whole = ap length inv.same in
+    let left = length-drop w.reader.at w.reader.bytes.now in
+    let place : w.reader.at ≡ length c.args.bytes.now - length (ahead w) = omega arith in
+    refuses c.args.bytes.now c.fault.result (record {
+      stage = phase w.stage;
+      rest = ahead w;
+      why = c.in-Err.cause;
+      before = inv.sound;
+      going_on = c.in_default.ensures;
+      refused = refused.0;
+      fault_is = (rw refused.1 at c.fault.ensures) ∙ ap (Dump c.in-Err.cause (rank_told (phase w.stage) c.in-Err.cause)) place;
+    })
 
-pub returns-in-Err-admit : goal.returns-in-Err-admit
-returns-in-Err-admit c =
-    let inv = c.records.invariant in
-    let at = c.records.reader.at in
-    let stands = subst (λ (b : List ℕ). Stands b at c.in-Ok.item c.next.new.self.at) inv.0 c.in-Ok.ensures.read in
-    refused-at c.args.bytes.now at c.records.stage c.in-Err-admit.ground _ inv.1 inv.2 c.in_default.ensures (refusal-there stands.leads _ ∙ err_told _ _ _ c.in-Err-admit.ensures) c.fault_at-in-Err-admit.ensures
+pub records-smaller : goal.records-smaller
+records-smaller c = let t = c.in_default-step.ensures in rw t.rest (shrinks _ _ t.sound)
 
 pub records-preserved : goal.records-preserved
 records-preserved c =
-    let inv = c.records.invariant in
-    let bytes = c.args.bytes.now in
-    let at = c.records.reader.at in
-    let told = ok_told _ _ _ c.in-Ok-admit.ensures in
-    let read = c.in-Ok.ensures in
-    let stands = subst (λ (b : List ℕ). Stands b at c.in-Ok.item c.next.new.self.at) inv.0 read.read in
-    (read.bytes ∙ inv.0, stands.within, step bytes at c.next.new.self.at c.in-Ok.item c.records.stage c.in-Ok-admit.next stands inv.2 told.0 told.1)
+    let t = c.in_default-step.ensures in
+    record { same = t.same ∙ c.records.invariant.same; sound = rw (t.rest, t.stage) (more c.records.invariant.sound t.sound) }

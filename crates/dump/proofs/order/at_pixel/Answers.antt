@@ -1,19 +1,22 @@
-use Rattle.std.proofs.Common.{is_some, sym, ap, ◌∙◌, arith}
+use Rattle.std.proofs.Common.{sym, refl, ◌∙◌, arith}
+use Rattle.std.proofs.lemmas.Bool.Decides.{nat_tests}
 use Rattle.dump.proofs.Lawful.{body-told}
-use Rattle.dump.proofs.PixelRecords.{not-lawful, past_end, sound}
 use Rattle.dump.proofs.order.at_pixel.Goals as goal
 
-pub returns-in_default-read_body : goal.returns-in_default-read_body
-returns-in_default-read_body g c =
+pub returns-then-is_none : goal.returns-then-is_none
+returns-then-is_none g c =
     let told = body-told g.P.Pixel.model g.met.P.Pixel.lawful c.requires.named c.args.body.now c.read_body.result c.requires.size c.read_body.ensures.value c.read_body.ensures.words in
-    not-lawful _ c.args.stage c.in-Within.p c.args.body.now c.in-Within.is (λ e. omega arith) (omega arith) (sym told ∙ ap is_some c.in_default-read_body.is)
+    let law = sym told ∙ c.if-is_none.ensures in
+    rw c.in-Within.is (grind (arith, nat_tests))
 
 pub returns-then-p : goal.returns-then-p
 returns-then-p g c =
     let told = body-told g.P.Pixel.model g.met.P.Pixel.lawful c.requires.named c.args.body.now c.read_body.result c.requires.size c.read_body.ensures.value c.read_body.ensures.words in
-    past_end _ c.args.stage c.in-Within.p c.args.body.now c.in-Within.is (λ e. omega arith) (omega arith) (sym told ∙ ap is_some c.in-Some.is) c.if-p.true
+    let law = sym told ∙ c.if-is_none.ensures in
+    rw c.in-Within.is (grind (arith, nat_tests))
 
 pub returns : goal.returns
 returns g c =
     let told = body-told g.P.Pixel.model g.met.P.Pixel.lawful c.requires.named c.args.body.now c.read_body.result c.requires.size c.read_body.ensures.value c.read_body.ensures.words in
-    sound _ c.args.stage c.in-Within.p c.args.body.now c.in-Within.is (λ e. omega arith) (omega arith) (sym told ∙ ap is_some c.in-Some.is) c.if-p.false
+    let law = sym told ∙ c.if-is_none.ensures in
+    rw c.in-Within.is (grind (arith, nat_tests), refl)
