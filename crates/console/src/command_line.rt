@@ -15,7 +15,7 @@ pub enum Request<'a> {
 }
 
 // The request that the words make.
-pub fn request_of<'a>(words: &'a [String]) -> Request<'a>
+pub fn request_of(words: &[String]) -> Request<'_>
     ensures { Asked (map string_bytes words.now) result }
 {
     let [first, rest @ ..] = words else {
