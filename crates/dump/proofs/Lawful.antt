@@ -7,7 +7,7 @@ use Rattle.tile.specs.Kinds.{Kind, KindLaws}
 use Rattle.tile.specs.Named.{named_width, named_lawful}
 use Rattle.tile.specs.Words.{AreWords}
 use Rattle.dump.specs.Bytes.{body_pixel, words_in}
-use Rattle.dump.proofs.Spelled.{length-words_in}
+use Rattle.dump.proofs.Spelled.{length_words_in}
 
 pub few_words : (n : ℕ) → named_width n ≤ 5
 few_words n = grind (arith, nat_tests)
@@ -21,9 +21,9 @@ module _ {P R : Type 0} (m : Kind P R) (laws : KindLaws m) (named : 0 < named_wi
       let q = (laws.named named).all_allowed ws (long ∙ sym (laws.named named).same_width) are t in
       none-some q.0 (e ∙ ap m.reads (sym q.1) ∙ laws.read_back q.0)))
 
-  pub body-told : (b : List ℕ) (o : Option P) → length b ≡ 4 * named_width m.number → o ≡ body_pixel m b → AreWords (words_in b) → is_some o ≡ named_lawful m.number (words_in b)
-  body-told b o size read are =
+  pub body_told : (b : List ℕ) (o : Option P) → length b ≡ 4 * named_width m.number → o ≡ body_pixel m b → AreWords (words_in b) → is_some o ≡ named_lawful m.number (words_in b)
+  body_told b o size read are =
       let few = few_words m.number in
       let fits = le-leb (length b) 20 (omega arith) in
-      let long = length-words_in b in
+      let long = length_words_in b in
       reads-told (words_in b) o (omega arith) are (read ∙ cond-true _ _ _ fits)

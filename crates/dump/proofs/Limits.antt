@@ -6,7 +6,7 @@ use Rattle.dump.specs.Bytes.{words_in}
 use Rattle.dump.specs.Grammar.{Piece, place, pixel, Upward, Sections, HasForm, Content, Placed, numbered, all_numbered, Inside, AllInside}
 use Rattle.dump.specs.Records.{body_size, kind_told}
 use Rattle.dump.proofs.PixelRecords.{pixel_record, some_kind}
-use Rattle.dump.proofs.Spelled.{length-words_in}
+use Rattle.dump.proofs.Spelled.{length_words_in}
 
 both_inside : (h : Heading) (ps qs : List Placed) → AllInside h ps → AllInside h qs → AllInside h (ps ++ qs)
 both_inside h [] qs a b = b
@@ -16,7 +16,7 @@ module _ (h : Heading) (some : 1 ≤ named_width h.kind) where
   one_inside : (r due k : ℕ) (b : List ℕ) → r < h.ranks → due < h.pixels → kind_told k ≡ h.kind → length b ≡ body_size k → named_lawful h.kind (words_in b) ≡ true → Inside h (record { rank = r; number = due; words = words_in b })
   one_inside r due k b low below is size law =
       let acts = pixel_record k (subst (λ (n : ℕ). 1 ≤ n) (sym is) (some_kind h.kind some)) in
-      let words = length-words_in b in
+      let words = length_words_in b in
       let width = ap named_width is in
       record { rank_in = low; number_in = below; long = omega (arith, acts.size_is); law = law }
 

@@ -3,12 +3,12 @@ use Rattle.std.proofs.Common.{◌≡◌, ℕ, zero, suc, ◌/◌, ◌<◌, List,
 use Rattle.tile.specs.Words.{AreWords}
 use Rattle.dump.specs.Bytes.{words_in}
 
-pub length-words_in : (b : List ℕ) → length (words_in b) ≡ length b / 4
-length-words_in [] = refl
-length-words_in (x ∷ []) = refl
-length-words_in (x ∷ y ∷ []) = refl
-length-words_in (x ∷ y ∷ z ∷ []) = refl
-length-words_in (x ∷ y ∷ z ∷ w ∷ b) = let more = length-words_in b in omega arith
+pub length_words_in : (b : List ℕ) → length (words_in b) ≡ length b / 4
+length_words_in [] = refl
+length_words_in (x ∷ []) = refl
+length_words_in (x ∷ y ∷ []) = refl
+length_words_in (x ∷ y ∷ z ∷ []) = refl
+length_words_in (x ∷ y ∷ z ∷ w ∷ b) = let more = length_words_in b in omega arith
 
 -- what bytes spell are words
 pub words_fit : (b : List ℕ) → ((i : ℕ) → get_or b i 0 < 256) → AreWords (words_in b)

@@ -19,6 +19,8 @@ pub fn read_dump(bytes: &[u8]) -> Result<Dump, Fault>
     ensures { MatchResult result (λ d. Accepted bytes.now (content d)) (λ f. Refused bytes.now f) }
 {
     let head = check(bytes)?;
-    let pixels = Pixels::new(bytes);
-    Ok(Dump { head, pixels })
+    Ok(Dump {
+        head,
+        pixels: Pixels::new(bytes),
+    })
 }

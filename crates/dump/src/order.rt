@@ -39,9 +39,9 @@ fn at_head(stage: Stage, body: [u8; 4]) -> Result<Stage, Ground>
     let [ranks, high, low, kind] = body;
     let ranks = u32::from(ranks);
     let pixels = half(high, low);
-    if ranks < 1 || ranks > 32 || pixels < 1 || pixels > 1024 {
+    let (1..=32, 1..=1024) = (ranks, pixels) else {
         return Err(Ground::OffLimits);
-    }
+    };
     let head = Head {
         ranks,
         pixels,
@@ -108,6 +108,7 @@ fn at_end(stage: Stage) -> Result<Stage, Ground>
 }
 
 // A pixel of the kind P.
+// Stays: P may be a kind without a name, so both facts hold of a call and of no type.
 fn at_pixel<P: Pixel>(stage: Stage, body: &[u8]) -> Result<Stage, Ground>
     requires named { 0 < named_width P.Pixel.model.number }
     requires size { length body.now ≡ 4 * named_width P.Pixel.model.number }

@@ -20,6 +20,7 @@ pub(crate) enum RecordKind {
 }
 
 // A record by its kind, with its body as a part of the dump.
+// Stays: bodies as arrays would ask more of whoever makes a record; an item keeps the length.
 #[derive(Clone, Copy)]
 pub enum Record<'a> {
     Head(&'a [u8]),

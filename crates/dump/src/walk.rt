@@ -23,7 +23,7 @@ pub(crate) struct Walk<'a> {
 fn last_rank(sections: u32) -> u32
     ensures { result ≡ last_rank sections }
 {
-    if sections == 0 { NO_RANK } else { sections - 1 }
+    sections.checked_sub(1).unwrap_or(NO_RANK)
 }
 
 // The rank that a fault tells.

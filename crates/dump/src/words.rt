@@ -23,6 +23,7 @@ impl<'a> Iterator for BodyWords<'a> {
 
     ghost remaining = { item_count words_left };
 
+    #[tactic(auto, using(crate::proofs::Spelled::length_words_in))]
     fn next(&mut self) -> Option<u32> {
         let (word, rest) = self.rest.split_first_chunk::<4>()?;
         self.rest = rest;
@@ -61,6 +62,7 @@ fn spelled(body: &[u8]) -> [u32; MOST_WORDS]
 }
 
 // The pixel whose words the body of a pixel record spells.
+#[tactic(auto, using(crate::proofs::Spelled::words_fit))]
 pub fn read_body<P: Pixel>(body: &[u8]) -> Option<P>
     ensures value { result ≡ body_pixel P.Pixel.model body.now }
     ensures words { AreWords (words_in body.now) }

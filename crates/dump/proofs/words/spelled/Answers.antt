@@ -4,7 +4,7 @@ use denote.Param.Members.{Mut}
 use Rattle.std.specs.Fn.{Called}
 use Rattle.std.specs.Array.{IsFromFnResultFrom}
 use Rattle.dump.specs.Bytes.{words_in}
-use Rattle.dump.proofs.Spelled.{length-words_in}
+use Rattle.dump.proofs.Spelled.{length_words_in}
 use Rattle.dump.proofs.words.spelled.Goals as goal
 
 -- calls of a function that stays what it was gave its answer at each index
@@ -27,7 +27,7 @@ begins (w ∷ ws) (x ∷ xs) le h = ap₂ (λ (a : ℕ) (l : List ℕ). a ∷ l)
 pub returns-clause-words : goal.returns-clause-words
 returns-clause-words c =
     let ws = words_in c.args.body.now in
-    let long = length-words_in c.args.body.now in
+    let long = length_words_in c.args.body.now in
     let made = c.from_fn.ensures.items in
     let read = each-told _ _ (λ i. unwrap_or (slice_get ws i) 0) c.from_fn.result (λ i r q k. search (rules, tests)) 5 0 made.each in
     rw (← long) (begins ws c.from_fn.result (omega (arith, made.long)) (λ k l. read k k (omega arith) (omega arith) ∙ word_or ws k))
