@@ -4,266 +4,230 @@ use boxes::line::LineLink;
 use link::Link;
 use link::trim::Trim;
 use request::links::{LinkCall, LinkRequest, link_request};
-use std::alloc::{AllocError, Global};
-use std::io::{BufRead, BufReader};
+use std::alloc::Global;
+use std::fmt;
+use std::io::{BufRead, Split, Write};
+use std::marker::PhantomData;
 use tile::fault::Fault;
 
 // The longest area that a read can need.
 const AREA: u32 = 5200;
 
-// The calls that are still to come, and how long an area reads bring.
-#[derive(Drop)]
-struct Replay<R> {
-    input: R,
-    room: u32,
+// How a link that is to be made keeps its boxes.
+#[derive(Clone, Copy)]
+enum Boxes {
+    Cells,
+    Line,
 }
 
 // A link that is to be made.
 #[derive(Clone, Copy)]
 struct Opening {
-    call: LinkCall,
+    boxes: Boxes,
     ranks: u32,
     longest: u32,
 }
 
-// Why a link gets no more calls for now.
+// What is to be made next, a link or a layer on the one at hand.
 #[derive(Clone, Copy)]
-enum Pause {
-    Open(Opening),
+enum Next {
+    Link(Opening),
     Layer,
-    End,
 }
 
-// What a line does that is no call of the link at hand.
+// A message that was read.
 #[derive(Clone, Copy)]
-enum Turn {
-    Pause(Pause),
-    Area(u32),
-    Told,
-}
+struct Message<'a>(&'a [u32]);
 
-// The answer to a call that gives nothing back.
-fn tell_done(rt: &HostRuntime, answer: Result<(), Fault>) -> anyhow::Result<Turn> {
-    match answer {
-        Ok(()) => rt.print("ok\n")?,
-        Err(fault) => println!(rt; "{fault}")?,
-    }
-    Ok(Turn::Told)
-}
-
-// The words of a message on one line.
-fn message_line(heap: Global, words: &[u32]) -> Result<String, AllocError> {
-    let mut line = String::from_str(heap, "ok:")?;
-    for word in words {
-        line.push_str(format!(in heap; " {word}")?.as_str())?;
-    }
-    line.push('\n')?;
-    Ok(line)
-}
-
-// Reads a message and tells its words.
-fn tell_read<L: Link>(
-    rt: &HostRuntime,
-    link: &mut L,
-    from: u32,
-    to: u32,
-    room: u32,
-) -> anyhow::Result<Turn> {
-    let mut area = vec![in rt.alloc(); 0; room.min(AREA) as usize]?;
-    match link.read(from, to, area.as_mut_slice()) {
-        Ok(count) => {
-            area.truncate(count);
-            rt.print(message_line(rt.alloc(), area.as_slice())?)?;
+impl fmt::Display for Message<'_> {
+    fn fmt<W: fmt::Write>(&self, f: &mut fmt::Formatter<W>) -> fmt::Result {
+        write!(f, "ok:")?;
+        for word in self.0 {
+            write!(f, " {word}")?;
         }
-        Err(fault) => println!(rt; "{fault}")?,
+        Ok(())
     }
-    Ok(Turn::Told)
 }
 
-// Tells whether a message waits.
-fn tell_waiting<L: Link>(rt: &HostRuntime, link: &L, from: u32, to: u32) -> anyhow::Result<Turn> {
-    match link.waiting(from, to) {
-        Ok(true) => rt.print("yes\n")?,
-        Ok(false) => rt.print("no\n")?,
-        Err(fault) => println!(rt; "{fault}")?,
-    }
-    Ok(Turn::Told)
-}
-
-// Says that a line is no call.
-fn tell_unknown(rt: &HostRuntime) -> anyhow::Result<Turn> {
-    rt.print("no link request: see 'tilemerge help'\n")?;
-    Ok(Turn::Told)
-}
-
-// Makes the call that a line asks for.
-fn make_call<L: Link>(
-    rt: &HostRuntime,
-    link: &mut L,
-    asked: &LinkRequest,
+// Where answers go, and how long an area reads bring.
+#[derive(Drop)]
+struct Desk<'a, W> {
+    heap: Global,
+    output: &'a mut W,
     room: u32,
-) -> anyhow::Result<Turn> {
-    match (asked.call, asked.numbers.as_slice()) {
-        (LinkCall::Send, [from, to, words @ ..]) => tell_done(rt, link.send(*from, *to, words)),
-        (LinkCall::Read, [from, to]) => tell_read(rt, link, *from, *to, room),
-        (LinkCall::Clear, [from, to]) => tell_done(rt, link.clear(*from, *to)),
-        (LinkCall::Waiting, [from, to]) => tell_waiting(rt, link, *from, *to),
-        (LinkCall::Area, [room]) => Ok(Turn::Area(*room)),
-        (LinkCall::Trim, []) => Ok(Turn::Pause(Pause::Layer)),
-        (LinkCall::Cell | LinkCall::Line, [ranks, longest]) => Ok(Turn::Pause(Pause::Open(
-            Opening {
-                call: asked.call,
-                ranks: *ranks,
-                longest: *longest,
-            },
-        ))),
-        _ => tell_unknown(rt),
-    }
 }
 
-// Makes the calls of the lines, up to one that makes a link or a layer.
-fn make_calls<R: BufRead, L: Link>(
-    rt: &HostRuntime,
-    replay: &mut Replay<R>,
-    link: &mut L,
-) -> anyhow::Result<Pause> {
-    let mut line = Vec::new(rt.alloc());
-    for _ in 0..u64::MAX {
-        line.clear();
-        if replay.input.read_until(b'\n', &mut line)? == 0 {
-            break;
+impl<'a, W: Write> Desk<'a, W> {
+    // Tells the answer to a call, or its refusal.
+    fn tell<T: fmt::Display + Drop>(&mut self, answer: Result<T, Fault>) -> anyhow::Result<()> {
+        match answer {
+            Ok(told) => writeln!(self.output, "{told}")?,
+            Err(fault) => writeln!(self.output, "{fault}")?,
         }
-        let next = match link_request(rt.alloc(), line.as_slice())? {
-            Some(asked) => make_call(rt, link, &asked, replay.room)?,
-            None => tell_unknown(rt)?,
-        };
-        match next {
-            Turn::Pause(pause) => return Ok(pause),
-            Turn::Area(room) => {
-                replay.room = room;
-                rt.print("ok\n")?;
+        Ok(())
+    }
+
+    // Reads a message and tells its words.
+    fn read<L: Link>(&mut self, link: &mut L, from: u32, to: u32) -> anyhow::Result<()> {
+        let mut area = vec![in self.heap; 0; self.room.min(AREA) as usize]?;
+        match link.read(from, to, area.as_mut_slice()) {
+            Ok(count) => self.tell(Ok(Message(area.get(..count).unwrap_or(&[])))),
+            Err(fault) => self.tell(Err::<&str, Fault>(fault)),
+        }
+    }
+
+    // Makes the call that a line asks for, or tells what is to be made.
+    fn call<L: Link>(
+        &mut self,
+        link: &mut L,
+        asked: &LinkRequest,
+        more: bool,
+    ) -> anyhow::Result<Option<Next>> {
+        match (asked.call, asked.numbers.as_slice()) {
+            (LinkCall::Send, [from, to, words @ ..]) => {
+                self.tell(link.send(*from, *to, words).map(|()| "ok"))?;
             }
-            Turn::Told => {}
+            (LinkCall::Read, [from, to]) => self.read(link, *from, *to)?,
+            (LinkCall::Clear, [from, to]) => self.tell(link.clear(*from, *to).map(|()| "ok"))?,
+            (LinkCall::Waiting, [from, to]) => {
+                let answer = link.waiting(*from, *to);
+                self.tell(answer.map(|waits| if waits { "yes" } else { "no" }))?;
+            }
+            (LinkCall::Area, [room]) => {
+                self.room = *room;
+                self.tell(Ok("ok"))?;
+            }
+            (LinkCall::Trim, []) if more => return Ok(Some(Next::Layer)),
+            (LinkCall::Trim, []) => self.tell(Ok("no more than four layers"))?,
+            (LinkCall::Cell, [ranks, longest]) => {
+                return Ok(Some(Next::Link(Opening {
+                    boxes: Boxes::Cells,
+                    ranks: *ranks,
+                    longest: *longest,
+                })));
+            }
+            (LinkCall::Line, [ranks, longest]) => {
+                return Ok(Some(Next::Link(Opening {
+                    boxes: Boxes::Line,
+                    ranks: *ranks,
+                    longest: *longest,
+                })));
+            }
+            _ => self.tell(Ok("no link request: see 'tilemerge help'"))?,
+        }
+        Ok(None)
+    }
+}
+
+// The lines that are still to come, and where their answers go.
+#[derive(Drop)]
+struct Replay<'a, R, W> {
+    lines: Split<R>,
+    desk: Desk<'a, W>,
+}
+
+impl<'a, R: BufRead + Drop, W: Write> Replay<'a, R, W> {
+    // Makes the calls of the lines, up to one that makes a link or a layer.
+    fn calls<L: Link>(&mut self, link: &mut L, more: bool) -> anyhow::Result<Option<Next>> {
+        for line in self.lines.by_ref() {
+            let Some(asked) = link_request(self.desk.heap, line?.as_slice())? else {
+                self.desk.tell(Ok("no link request: see 'tilemerge help'"))?;
+                continue;
+            };
+            if let Some(next) = self.desk.call(link, &asked, more)? {
+                return Ok(Some(next));
+            }
+        }
+        Ok(None)
+    }
+
+    // Makes a link over memory of its own and the calls on it, up to one that makes another link.
+    fn on_link(&mut self, opening: Opening) -> anyhow::Result<Option<Opening>> {
+        let Opening {
+            boxes,
+            ranks,
+            longest,
+        } = opening;
+        let (few, short) = (ranks.min(32) as usize, longest.min(AREA) as usize);
+        let mut words = vec![in self.desk.heap; 0; few * few * (short + 2)]?;
+        self.desk.tell(Ok("ok"))?;
+        let words = words.as_mut_slice();
+        match boxes {
+            Boxes::Cells => Four::on_pile(self, &mut CellLink::new(ranks, longest, words)),
+            Boxes::Line => Four::on_pile(self, &mut LineLink::new(ranks, longest, words)),
         }
     }
-    Ok(Pause::End)
 }
 
-// Calls on a pile that takes no further layer.
-fn top_of_pile<R: BufRead, L: Link>(
-    rt: &HostRuntime,
-    replay: &mut Replay<R>,
-    link: &mut L,
-) -> anyhow::Result<Pause> {
-    for _ in 0..u64::MAX {
-        match make_calls(rt, replay, link)? {
-            Pause::Layer => rt.print("no more than four layers\n")?,
-            other => return Ok(other),
+// How many more layers a pile takes.
+trait Layers {
+    // Makes the calls of the lines on a link and the layers laid on it, up to one that makes another link.
+    fn on_pile<R: BufRead + Drop, W: Write, L: Link>(
+        replay: &mut Replay<R, W>,
+        link: &mut L,
+    ) -> anyhow::Result<Option<Opening>>;
+}
+
+// None.
+struct Full;
+
+// One more than M.
+struct OneMore<M> {
+    above: PhantomData<M>,
+}
+
+// A pile is a type, so how high it can get is fixed.
+type Four = OneMore<OneMore<OneMore<OneMore<Full>>>>;
+
+impl Layers for Full {
+    fn on_pile<R: BufRead + Drop, W: Write, L: Link>(
+        replay: &mut Replay<R, W>,
+        link: &mut L,
+    ) -> anyhow::Result<Option<Opening>> {
+        match replay.calls(link, false)? {
+            Some(Next::Link(opening)) => Ok(Some(opening)),
+            Some(Next::Layer) | None => Ok(None),
         }
     }
-    Ok(Pause::End)
 }
 
-// Calls on a link, and on a fourth layer.
-fn three_layers<R: BufRead, L: Link>(
-    rt: &HostRuntime,
-    replay: &mut Replay<R>,
-    link: &mut L,
-) -> anyhow::Result<Pause> {
-    match make_calls(rt, replay, link)? {
-        Pause::Layer => {
-            rt.print("ok\n")?;
-            top_of_pile(rt, replay, &mut Trim::new(link))
+impl<M: Layers> Layers for OneMore<M> {
+    fn on_pile<R: BufRead + Drop, W: Write, L: Link>(
+        replay: &mut Replay<R, W>,
+        link: &mut L,
+    ) -> anyhow::Result<Option<Opening>> {
+        match replay.calls(link, true)? {
+            Some(Next::Link(opening)) => Ok(Some(opening)),
+            Some(Next::Layer) => {
+                replay.desk.tell(Ok("ok"))?;
+                M::on_pile(replay, &mut Trim::new(link))
+            }
+            None => Ok(None),
         }
-        other => Ok(other),
     }
 }
 
-// Calls on a link, and on a third layer and those above.
-fn two_layers<R: BufRead, L: Link>(
-    rt: &HostRuntime,
-    replay: &mut Replay<R>,
-    link: &mut L,
-) -> anyhow::Result<Pause> {
-    match make_calls(rt, replay, link)? {
-        Pause::Layer => {
-            rt.print("ok\n")?;
-            three_layers(rt, replay, &mut Trim::new(link))
-        }
-        other => Ok(other),
-    }
-}
-
-// Calls on a link, and on a second layer and those above.
-fn one_layer<R: BufRead, L: Link>(
-    rt: &HostRuntime,
-    replay: &mut Replay<R>,
-    link: &mut L,
-) -> anyhow::Result<Pause> {
-    match make_calls(rt, replay, link)? {
-        Pause::Layer => {
-            rt.print("ok\n")?;
-            two_layers(rt, replay, &mut Trim::new(link))
-        }
-        other => Ok(other),
-    }
-}
-
-// Calls on a link, and on the layers above it.
-fn no_layers<R: BufRead, L: Link>(
-    rt: &HostRuntime,
-    replay: &mut Replay<R>,
-    link: &mut L,
-) -> anyhow::Result<Pause> {
-    match make_calls(rt, replay, link)? {
-        Pause::Layer => {
-            rt.print("ok\n")?;
-            one_layer(rt, replay, &mut Trim::new(link))
-        }
-        other => Ok(other),
-    }
-}
-
-// Makes a link over memory of its own and makes the calls on it.
-fn on_link<R: BufRead>(
-    rt: &HostRuntime,
-    replay: &mut Replay<R>,
-    opening: Opening,
-) -> anyhow::Result<Pause> {
-    let Opening {
-        call,
-        ranks,
-        longest,
-    } = opening;
-    let (few, short) = (ranks.min(32) as usize, longest.min(AREA) as usize);
-    let mut words = vec![in rt.alloc(); 0; few * few * (short + 2)]?;
-    rt.print("ok\n")?;
-    match call {
-        LinkCall::Line => no_layers(
-            rt,
-            replay,
-            &mut LineLink::new(ranks, longest, words.as_mut_slice()),
-        ),
-        _ => no_layers(
-            rt,
-            replay,
-            &mut CellLink::new(ranks, longest, words.as_mut_slice()),
-        ),
-    }
-}
-
-// Replays the calls of standard input, which may make several links one after another.
-pub fn link_lines(rt: &HostRuntime) -> anyhow::Result<()> {
+// Replays the calls of the input, which may make several links one after another.
+pub fn link_lines<R: BufRead + Drop, W: Write>(
+    heap: Global,
+    input: R,
+    output: &mut W,
+) -> anyhow::Result<()> {
     let mut replay = Replay {
-        input: BufReader::new(rt.alloc(), rt.stdin())?,
-        room: AREA,
+        lines: input.split(heap, b'\n'),
+        desk: Desk {
+            heap,
+            output,
+            room: AREA,
+        },
     };
-    let mut next = no_layers(rt, &mut replay, &mut CellLink::new(0, 0, &mut []))?;
+    let mut next = Four::on_pile(&mut replay, &mut CellLink::new(0, 0, &mut []))?;
+    // Stays: a loop that waits on input has no measure, so a count that never runs out bounds it.
     for _ in 0..u64::MAX {
-        let Pause::Open(opening) = next else {
+        let Some(opening) = next else {
             break;
         };
-        next = on_link(rt, &mut replay, opening)?;
+        next = replay.on_link(opening)?;
     }
     Ok(())
 }

@@ -1,4 +1,14 @@
 // Shows plans as lines or as a picture.
+ghost use Rattle.std.specs.Prelude.{OnOk, IfOk, ◌≤◌, List, ℕ, map, string_bytes};
+ghost use Rattle.std.specs.List.{flat_map};
+ghost use Rattle.std.specs.Io.KnownBytes.{Appends};
+ghost use Rattle.chart.specs.Lines.{transfer_line};
+ghost use Rattle.commands.specs.Lines.{Answers};
+ghost use Rattle.commands.specs.Plans.{PlanReply, Shows, Tells, column, form_in, line_in, rank_names, round_lines, sends_lines, transfer_stroke};
+ghost use Rattle.commands.specs.declared.form.Form.TheVariants.{Lines, Picture};
+ghost use Rattle.plan.specs.Transfers.{Lists};
+
+use crate::form::Form;
 use chart::lines::{PlanLine, RankLine, SendsLine, TransferLine};
 use chart::picture::{
     Bar, COLUMN, EDGE, Frame, Label, PictureHead, Point, ROW, Stroke, across, column_left, row_top,
@@ -11,15 +21,10 @@ use plan::swap::SwapPlan;
 use plan::transfer::Transfer;
 use plan::transfers::list_transfers;
 use request::plans::{Maker, plan_request};
-use std::io::{BufRead, BufReader};
+use std::alloc::Global;
+use std::io;
+use std::io::{BufRead, Write};
 use tile::fault::Fault;
-
-// How a plan is shown.
-#[derive(Clone, Copy)]
-enum Form {
-    Lines,
-    Picture,
-}
 
 // An entry of the transfer list before it is written.
 const UNWRITTEN: Transfer = Transfer {
@@ -29,87 +34,124 @@ const UNWRITTEN: Transfer = Transfer {
     piece: Run { start: 0, len: 0 },
 };
 
-// A line for each rank in a round.
-fn show_round<P: Plan>(rt: &HostRuntime, plan: &P, round: u32) -> anyhow::Result<()> {
-    for rank in 0..plan.ranks() {
-        if let (Ok(group), Ok(span)) = (plan.group(round, rank), plan.span(round, rank)) {
-            rt.print(RankLine {
-                round,
-                rank,
-                group,
-                span,
-            })?;
-        }
-    }
-    Ok(())
-}
-
-// A bar for each rank in a round.
-fn draw_round<P: Plan>(rt: &HostRuntime, plan: &P, round: u32) -> anyhow::Result<()> {
-    let left = column_left(round);
-    let pixels = plan.pixels();
-    rt.print(Label {
-        start: Point { x: left, y: 24 },
-        word: "round",
-        number: round,
-    })?;
-    for rank in 0..plan.ranks() {
-        if let Ok(span) = plan.span(round, rank) {
-            let y = row_top(rank);
-            rt.print(Frame {
-                corner: Point { x: left, y },
-            })?;
-            let x = left + across(span.start, pixels);
-            rt.print(Bar {
-                corner: Point { x, y },
-                width: across(span.len, pixels),
-            })?;
-        }
-    }
-    Ok(())
-}
-
 // The transfers of a plan, in the order of its list.
-fn transfers_of<P: Plan>(rt: &HostRuntime, plan: &P) -> anyhow::Result<Vec<Transfer>> {
-    let room = plan.rounds() as usize * 1024;
-    let mut area = vec![in rt.alloc(); UNWRITTEN; room]?;
-    let count = list_transfers(plan, area.as_mut_slice()).unwrap_or(0);
+fn transfers_of<P: Plan>(heap: Global, plan: &P) -> anyhow::Result<Vec<Transfer>>
+    ensures { IfOk result (λ v. Lists (P.model plan.now) v.items) }
+{
+    let mut area = vec![in heap; UNWRITTEN; plan.rounds() as usize * 1024]?;
+    let count = list_transfers(plan, area.as_mut_slice())?;
     area.truncate(count);
     Ok(area)
 }
 
-// What each rank sends.
-fn show_sends<P: Plan>(rt: &HostRuntime, plan: &P) -> anyhow::Result<()> {
+// A line for each rank in a round.
+fn write_round<P: Plan, W: Write>(plan: &P, output: &mut W, round: u32) -> anyhow::Result<()>
+    requires { round ≤ (P.model plan.now).rounds }
+    ensures { OnOk result (Appends (W.contents output.old) (W.contents output.new) (round_lines (P.model plan.now) round)) }
+{
     for rank in 0..plan.ranks() {
-        if let Ok(pixels) = sends(plan, rank) {
-            rt.print(SendsLine { rank, pixels })?;
-        }
+        let group = plan.group(round, rank)?;
+        let span = plan.span(round, rank)?;
+        output.write_fmt(RankLine {
+            round,
+            rank,
+            group,
+            span,
+        })?;
+    }
+    Ok(())
+}
+
+// What each rank sends.
+fn write_sends<P: Plan, W: Write>(plan: &P, output: &mut W) -> anyhow::Result<()>
+    ensures { OnOk result (Appends (W.contents output.old) (W.contents output.new) (sends_lines (P.model plan.now))) }
+{
+    for rank in 0..plan.ranks() {
+        let pixels = sends(plan, rank)?;
+        output.write_fmt(SendsLine { rank, pixels })?;
+    }
+    Ok(())
+}
+
+// A line for each transfer.
+fn write_transfers<W: Write>(transfers: &[Transfer], output: &mut W) -> io::Result<()>
+    ensures { OnOk result (Appends (W.contents output.old) (W.contents output.new) (flat_map transfer_line transfers.now)) }
+{
+    for transfer in transfers {
+        output.write_fmt(TransferLine {
+            transfer: *transfer,
+        })?;
     }
     Ok(())
 }
 
 // The plan as lines.
-fn show_lines<P: Plan>(rt: &HostRuntime, plan: &P) -> anyhow::Result<()> {
+fn write_lines<P: Plan, W: Write>(heap: Global, plan: &P, output: &mut W) -> anyhow::Result<()>
+    ensures { OnOk result ((text : List ℕ) × Shows (P.model plan.now) Lines text × Appends (W.contents output.old) (W.contents output.new) text) }
+{
+    let transfers = transfers_of(heap, plan)?;
     let rounds = plan.rounds();
-    rt.print(PlanLine {
+    output.write_fmt(PlanLine {
         ranks: plan.ranks(),
         pixels: plan.pixels(),
         rounds,
     })?;
-    for round in 0..=rounds {
-        show_round(rt, plan, round)?;
+    for round in 0..rounds + 1 {
+        write_round(plan, output, round)?;
     }
-    for transfer in transfers_of(rt, plan)?.iter() {
-        rt.print(TransferLine {
-            transfer: *transfer,
-        })?;
-    }
-    show_sends(rt, plan)
+    write_transfers(transfers.as_slice(), output)?;
+    write_sends(plan, output)?;
+    Ok(())
 }
 
-// The lines between the columns of a picture.
-fn draw_transfers<P: Plan>(rt: &HostRuntime, plan: &P) -> anyhow::Result<()> {
-    for transfer in transfers_of(rt, plan)?.iter() {
+// The names of the ranks before their rows.
+fn draw_ranks<P: Plan, W: Write>(plan: &P, output: &mut W) -> io::Result<()>
+    ensures { OnOk result (Appends (W.contents output.old) (W.contents output.new) (rank_names (P.model plan.now))) }
+{
+    for rank in 0..plan.ranks() {
+        let start = Point {
+            x: 14,
+            y: row_top(rank) + 11,
+        };
+        output.write_fmt(Label {
+            start,
+            word: "rank",
+            number: rank,
+        })?;
+    }
+    Ok(())
+}
+
+// A round's column, with its name.
+fn draw_round<P: Plan, W: Write>(plan: &P, output: &mut W, round: u32) -> anyhow::Result<()>
+    requires { round ≤ (P.model plan.now).rounds }
+    ensures { OnOk result (Appends (W.contents output.old) (W.contents output.new) (column (P.model plan.now) round)) }
+{
+    let (left, pixels) = (column_left(round), plan.pixels());
+    output.write_fmt(Label {
+        start: Point { x: left, y: 24 },
+        word: "round",
+        number: round,
+    })?;
+    for rank in 0..plan.ranks() {
+        let span = plan.span(round, rank)?;
+        let (x, y) = (left + across(span.start, pixels), row_top(rank));
+        output.write_fmt(Frame {
+            corner: Point { x: left, y },
+        })?;
+        output.write_fmt(Bar {
+            corner: Point { x, y },
+            width: across(span.len, pixels),
+        })?;
+    }
+    Ok(())
+}
+
+// A line for each transfer, from the column of its old round to that of its new one.
+fn draw_transfers<W: Write>(transfers: &[Transfer], output: &mut W) -> io::Result<()>
+    ensures { OnOk result (Appends (W.contents output.old) (W.contents output.new) (flat_map transfer_stroke transfers.now)) }
+{
+    for transfer in transfers {
         let start = Point {
             x: column_left(transfer.round.saturating_sub(1)) + COLUMN,
             y: row_top(transfer.sender) + ROW / 2,
@@ -118,86 +160,83 @@ fn draw_transfers<P: Plan>(rt: &HostRuntime, plan: &P) -> anyhow::Result<()> {
             x: column_left(transfer.round),
             y: row_top(transfer.receiver) + ROW / 2,
         };
-        rt.print(Stroke { start, end })?;
-    }
-    Ok(())
-}
-
-// The names of the ranks before their rows.
-fn draw_ranks<P: Plan>(rt: &HostRuntime, plan: &P) -> anyhow::Result<()> {
-    for rank in 0..plan.ranks() {
-        rt.print(Label {
-            start: Point {
-                x: 14,
-                y: row_top(rank) + 11,
-            },
-            word: "rank",
-            number: rank,
-        })?;
+        output.write_fmt(Stroke { start, end })?;
     }
     Ok(())
 }
 
 // The plan as a picture.
-fn show_picture<P: Plan>(rt: &HostRuntime, plan: &P) -> anyhow::Result<()> {
+fn write_picture<P: Plan, W: Write>(heap: Global, plan: &P, output: &mut W) -> anyhow::Result<()>
+    ensures { OnOk result ((text : List ℕ) × Shows (P.model plan.now) Picture text × Appends (W.contents output.old) (W.contents output.new) text) }
+{
+    let transfers = transfers_of(heap, plan)?;
     let rounds = plan.rounds();
-    let width = column_left(rounds) + COLUMN + EDGE;
-    let height = row_top(plan.ranks()) + ROW;
-    rt.print(PictureHead { width, height })?;
-    draw_ranks(rt, plan)?;
-    for round in 0..=rounds {
-        draw_round(rt, plan, round)?;
+    output.write_fmt(PictureHead {
+        width: column_left(rounds) + COLUMN + EDGE,
+        height: row_top(plan.ranks()) + ROW,
+    })?;
+    draw_ranks(plan, output)?;
+    for round in 0..rounds + 1 {
+        draw_round(plan, output, round)?;
     }
-    draw_transfers(rt, plan)?;
-    Ok(rt.print("</svg>\n")?)
+    draw_transfers(transfers.as_slice(), output)?;
+    output.write_all(b"</svg>\n")?;
+    Ok(())
 }
 
-// The plan, or the fault of its maker.
-fn show_made<P: Plan + Drop>(
-    rt: &HostRuntime,
+// Shows the plan that was made, or tells the fault of its maker.
+fn tell<P: Plan + Drop, W: Write>(
+    heap: Global,
     form: Form,
     made: Result<P, Fault>,
-) -> anyhow::Result<()> {
+    output: &mut W,
+) -> anyhow::Result<()>
+    ensures { OnOk result ((text : List ℕ) × Tells P.model form made text × Appends (W.contents output.old) (W.contents output.new) text) }
+{
     match (made, form) {
-        (Ok(plan), Form::Lines) => show_lines(rt, &plan),
-        (Ok(plan), Form::Picture) => show_picture(rt, &plan),
-        (Err(fault), _) => Ok(println!(rt; "{fault}")?),
+        (Ok(plan), Form::Lines) => write_lines(heap, &plan, output),
+        (Ok(plan), Form::Picture) => write_picture(heap, &plan, output),
+        (Err(fault), _) => Ok(writeln!(output, "{fault}")?),
     }
 }
 
 // Answers a request for a plan.
-fn answer_plan(rt: &HostRuntime, form: Form, line: &[u8]) -> anyhow::Result<()> {
-    let Some(asked) = plan_request(rt.alloc(), line)? else {
-        return Ok(rt.print("no plan request: write 'swap R P' or 'radix R P K..'\n")?);
-    };
-    match (asked.call, asked.numbers.as_slice()) {
-        (Maker::Swap, [ranks, pixels]) => show_made(rt, form, SwapPlan::new(*ranks, *pixels)),
-        (Maker::Radix, [ranks, pixels, factors @ ..]) => show_made(
-            rt,
-            form,
-            RadixPlan::new(*ranks, *pixels, factors),
-        ),
-        _ => Ok(rt.print("no plan request: write 'swap R P' or 'radix R P K..'\n")?),
+fn answer<W: Write>(heap: Global, form: Form, line: &[u8], output: &mut W) -> anyhow::Result<()>
+    ensures { OnOk result ((text : List ℕ) × PlanReply form line.now text × Appends (W.contents output.old) (W.contents output.new) text) }
+{
+    if let Some(asked) = plan_request(heap, line)? {
+        match (asked.call, asked.numbers.as_slice()) {
+            (Maker::Swap, [ranks, pixels]) => {
+                return tell(heap, form, SwapPlan::new(*ranks, *pixels), output);
+            }
+            (Maker::Radix, [ranks, pixels, factors @ ..]) => {
+                return tell(heap, form, RadixPlan::new(*ranks, *pixels, factors), output);
+            }
+            _ => {}
+        }
     }
+    Ok(output.write_all(b"no plan request: write 'swap R P' or 'radix R P K..'\n")?)
 }
 
-// Answers each line of standard input that asks for a plan.
-pub fn plan_lines(rt: &HostRuntime) -> anyhow::Result<()> {
-    let mut input = BufReader::new(rt.alloc(), rt.stdin())?;
-    let mut line = Vec::new(rt.alloc());
-    for _ in 0..u64::MAX {
-        line.clear();
-        if input.read_until(b'\n', &mut line)? == 0 {
-            break;
-        }
-        answer_plan(rt, Form::Lines, line.as_slice())?;
+// Answers each line of the input that asks for a plan.
+pub fn plan_lines<R: BufRead + Drop, W: Write>(
+    heap: Global,
+    input: R,
+    output: &mut W,
+) -> anyhow::Result<()>
+    ensures { OnOk result (Answers (PlanReply Lines) (R.remaining input) (W.contents output.old) (W.contents output.new)) }
+{
+    for line in input.split(heap, b'\n') {
+        answer(heap, Form::Lines, line?.as_slice(), output)?;
     }
     Ok(())
 }
 
 // Answers the words behind `plan`.
-pub fn plan_words(rt: &HostRuntime, words: &[String]) -> anyhow::Result<()> {
-    let mut line = String::new(rt.alloc());
+pub fn plan_words<W: Write>(heap: Global, words: &[String], output: &mut W) -> anyhow::Result<()>
+    ensures { OnOk result ((text : List ℕ) × PlanReply (form_in (map string_bytes words.now)) (line_in (map string_bytes words.now)) text × Appends (W.contents output.old) (W.contents output.new) text) }
+{
+    let mut line = String::new(heap);
     let mut form = Form::Lines;
     for word in words {
         if word.as_str() == "--svg" {
@@ -207,5 +246,6 @@ pub fn plan_words(rt: &HostRuntime, words: &[String]) -> anyhow::Result<()> {
             line.push(' ')?;
         }
     }
-    answer_plan(rt, form, line.as_bytes())
+    answer(heap, form, line.as_bytes(), output)?;
+    Ok(())
 }

@@ -2,7 +2,10 @@
 #![tactic(auto)]
 
 use commands::links::link_lines;
+use std::io;
+use std::io::BufReader;
 
 fn main(rt: HostRuntime) -> anyhow::Result<()> {
-    link_lines(&rt)
+    let input = BufReader::new(rt.alloc(), rt.stdin())?;
+    link_lines(rt.alloc(), input, &mut io::writer(&rt))
 }

@@ -2,7 +2,10 @@
 #![tactic(auto)]
 
 use commands::plans::plan_lines;
+use std::io;
+use std::io::BufReader;
 
 fn main(rt: HostRuntime) -> anyhow::Result<()> {
-    plan_lines(&rt)
+    let input = BufReader::new(rt.alloc(), rt.stdin())?;
+    plan_lines(rt.alloc(), input, &mut io::writer(&rt))
 }

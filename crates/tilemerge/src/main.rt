@@ -6,7 +6,8 @@ use commands::inspects::{inspect_file, inspect_lines};
 use commands::links::link_lines;
 use commands::plans::{plan_lines, plan_words};
 use console::command_line::{Request, request_of};
-use std::env;
+use std::io::BufReader;
+use std::{env, io};
 
 const HELP: &str =
     "tilemerge: looks at dumps of pictures, shows plans of merging them, and tries links between cards
@@ -28,14 +29,17 @@ fn refuse(rt: &HostRuntime, word: &str) -> anyhow::Result<()> {
 }
 
 fn main(rt: HostRuntime) -> anyhow::Result<()> {
-    let given = env::args(&rt)?.skip(1).collect::<Vec<String>>(rt.alloc())?;
+    let heap = rt.alloc();
+    let given = env::args(&rt)?.skip(1).collect::<Vec<String>>(heap)?;
+    let input = BufReader::new(heap, rt.stdin())?;
+    let mut output = io::writer(&rt);
     match request_of(given.as_slice()) {
         Request::Help => Ok(rt.print(HELP)?),
-        Request::InspectLines => inspect_lines(&rt),
-        Request::InspectFile(path) => inspect_file(&rt, path),
-        Request::Plan([]) => plan_lines(&rt),
-        Request::Plan(words) => plan_words(&rt, words),
-        Request::Link => link_lines(&rt),
+        Request::InspectLines => inspect_lines(heap, input, &mut output),
+        Request::InspectFile(path) => inspect_file(heap, &rt, path, &mut output),
+        Request::Plan([]) => plan_lines(heap, input, &mut output),
+        Request::Plan(words) => plan_words(heap, words, &mut output),
+        Request::Link => link_lines(heap, input, &mut output),
         Request::Unknown(word) => refuse(&rt, word),
     }
 }

@@ -1,0 +1,6 @@
+use Rattle.std.specs.Io.KnownBytes.{Appends}
+use Rattle.commands.specs.Plans.{below, sending}
+use Rattle.commands.proofs.plans.write_sends.Given as goal
+
+abbrev pub invariant-loop-rank : goal.invariant-loop-rank
+invariant-loop-rank g l = Appends (g.W.Write.contents l.initial.output) (g.W.Write.contents l.output) (below l.rank (sending (g.P.Plan.model l.fn.plan)))

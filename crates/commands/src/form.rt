@@ -1,0 +1,7 @@
+// How a plan is shown.
+
+#[derive(Clone, Copy, PartialEq, Eq, Debug)]
+pub enum Form {
+    Lines,
+    Picture,
+}
