@@ -123,7 +123,7 @@ fn draw_ranks<P: Plan, W: Write>(plan: &P, output: &mut W) -> io::Result<()>
 }
 
 // A round's column, with its name.
-fn draw_round<P: Plan, W: Write>(plan: &P, output: &mut W, round: u32) -> anyhow::Result<()>
+fn draw_column<P: Plan, W: Write>(plan: &P, output: &mut W, round: u32) -> anyhow::Result<()>
     requires { round ≤ (P.model plan.now).rounds }
     ensures { OnOk result (Appends (W.contents output.old) (W.contents output.new) (column (P.model plan.now) round)) }
 {
@@ -177,7 +177,7 @@ fn write_picture<P: Plan, W: Write>(heap: Global, plan: &P, output: &mut W) -> a
     })?;
     draw_ranks(plan, output)?;
     for round in 0..rounds + 1 {
-        draw_round(plan, output, round)?;
+        draw_column(plan, output, round)?;
     }
     draw_transfers(transfers.as_slice(), output)?;
     output.write_all(b"</svg>\n")?;

@@ -10,7 +10,7 @@ pub loop-round-init : goal.loop-round-init
 loop-round-init g c = appends_none _
 
 pub loop-round-preserved : goal.loop-round-preserved
-loop-round-preserved g c = one_more _ _ _ c.loop-round.round _ _ c.loop-round.invariant c.in_ok-draw_round.ensures refl
+loop-round-preserved g c = one_more _ _ _ c.loop-round.round _ _ c.loop-round.invariant c.in_ok-draw_column.ensures refl
 
 pub returns : goal.returns
 returns g c =

@@ -4,7 +4,7 @@ use Rattle.std.specs.Io.KnownBytes.{Appends}
 use Rattle.chart.specs.Picture.{across, bar, frame, label}
 use Rattle.commands.proofs.Lines.{appends_none, appends_both}
 use Rattle.commands.proofs.Telling.{all_below, one_more, round_is, told_is}
-use Rattle.commands.proofs.plans.draw_round.Goals as goal
+use Rattle.commands.proofs.plans.draw_column.Goals as goal
 
 pub loop-rank-init : goal.loop-rank-init
 loop-rank-init g c = appends_none _
