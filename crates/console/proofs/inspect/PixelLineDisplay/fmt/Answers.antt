@@ -1,15 +1,14 @@
-use Rattle.std.proofs.Common.{rules, ◌≡◌, ◌++◌, [], ◌∷◌, sym, refl, ap, ◌∙◌, append_assoc}
+use Rattle.std.proofs.Common.{rules, ◌≡◌, ◌++◌, [], ◌∷◌, decimal, sym, refl, ap, ◌∙◌, append_assoc}
 use Rattle.dump.specs.Bytes.{words_in, words_left}
-use Rattle.std.proofs.lemmas.List.{append-nil}
+use Rattle.std.proofs.lemmas.List.{append-nil, flat_map_more}
 use Rattle.std.proofs.Output.{has_written_append, has_written_of_eq}
-use Rattle.console.proofs.Lines.{words_push}
 use Rattle.console.proofs.inspect.PixelLineDisplay.fmt.Goals as goal
 
 pub loop-word-preserved : goal.loop-word-preserved
 loop-word-preserved g c =
     record {
       words = c.loop-word.invariant.words ∙ ap (λ l. c.loop-word.yielded ++ l) c.in-Some.ensures.steps ∙ sym (append_assoc c.loop-word.yielded (c.in-Some.word ∷ []) _);
-      written = λ p. has_written_of_eq _ _ _ _ _ (sym (words_push c.loop-word.yielded c.in-Some.word)) (has_written_append _ _ _ _ _ _ (c.loop-word.invariant.written p) (search rules));
+      written = λ p. has_written_of_eq _ _ _ _ _ (flat_map_more (λ w. 32 ∷ decimal w) [] c.loop-word.yielded c.in-Some.word) (has_written_append _ _ _ _ _ _ (c.loop-word.invariant.written p) (search rules));
     }
 
 pub returns-clause-writes : goal.returns-clause-writes
