@@ -16,7 +16,7 @@ returns-clause-writes g c =
     λ p ok.
     let first = c.in_ok-write.ensures.writes p refl in
     let words = c.loop-word.invariant.written first.plain in
-    let last = c.write-2.ensures.writes words.plain ok in
+    let last = c.writeln.ensures.writes words.plain ok in
     let given = ap words_left c.into_iter-word-iterator.ensures.into_iter_gives ∙ c.body_words-word-items.ensures in
     let all : c.loop-word.yielded ≡ words_in c.args.self.now.0.body.now = sym (append-nil _) ∙ ap (λ l. c.loop-word.yielded ++ l) (sym c.in-None.ensures.steps.0) ∙ sym c.loop-word.invariant.words ∙ given in
     has_written_of_eq _ _ _ _ _ (rw (← c.if-is_blank.ensures, ← all) refl) (has_written_append _ _ _ _ _ _ first (has_written_append _ _ _ _ _ _ words last))
