@@ -1,5 +1,6 @@
 -- What is told of a dump, as text. Assumes nothing.
 use Rattle.std.specs.Prelude.{◌≡◌, ℕ, cond, ◌⊎◌, List, [], ◌∷◌, ◌++◌, Some, codes, decimal, ◌≢◌}
+use Rattle.std.specs.List.{flat_map}
 use Rattle.tile.specs.declared.fault.Fault.{Fault}
 use Rattle.tile.specs.Texts.{fault_text}
 use Rattle.dump.specs.Phases.{Heading}
@@ -20,8 +21,7 @@ head_line h = codes "dump: ranks " ++ (decimal h.ranks ++ (codes ", pixels " ++ 
 
 -- a space before each word
 abbrev pub words_text : List ℕ → List ℕ
-words_text [] = []
-words_text (w ∷ ws) = (32 ∷ decimal w) ++ words_text ws
+words_text ws = flat_map (λ w. 32 ∷ decimal w) ws
 
 -- a pixel's rank, number and words
 abbrev pub pixel_line : ℕ → ℕ → List ℕ → List ℕ
@@ -33,8 +33,7 @@ shown_pixel p = cond (all_zero p.words) [] (pixel_line p.rank p.number p.words)
 
 -- a line for each pixel that is not blank
 abbrev pub pixel_lines : List Placed → List ℕ
-pixel_lines [] = []
-pixel_lines (p ∷ ps) = shown_pixel p ++ pixel_lines ps
+pixel_lines ps = flat_map shown_pixel ps
 
 -- all that is told of a dump that has the form
 abbrev pub report : Content → List ℕ

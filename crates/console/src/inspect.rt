@@ -28,7 +28,7 @@ impl fmt::Display for HeadLine {
             kind,
         } = self.0;
         let kind = kind.number();
-        write!(f, "dump: ranks {ranks}, pixels {pixels}, kind {kind}\n")
+        writeln!(f, "dump: ranks {ranks}, pixels {pixels}, kind {kind}")
     }
 }
 
@@ -48,7 +48,7 @@ impl<'a> fmt::Display for PixelLine<'a> {
         for word in body_words(body) {
             write!(f, " {word}")?;
         }
-        write!(f, "\n")
+        writeln!(f)
     }
 }
 
