@@ -2,6 +2,7 @@
 use boxes::cell::CellLink;
 use boxes::line::LineLink;
 use link::Link;
+use link::pair::Pair;
 use link::trim::Trim;
 use request::links::{LinkCall, LinkRequest, link_request};
 use std::alloc::{AllocError, Global};
@@ -65,12 +66,11 @@ fn message_line(heap: Global, words: &[u32]) -> Result<String, AllocError> {
 fn tell_read<L: Link>(
     rt: &HostRuntime,
     link: &mut L,
-    from: u32,
-    to: u32,
+    pair: Pair,
     room: u32,
 ) -> anyhow::Result<Turn> {
     let mut area = vec![in rt.alloc(); 0; room.min(AREA) as usize]?;
-    match link.read(from, to, area.as_mut_slice()) {
+    match link.read(pair, area.as_mut_slice()) {
         Ok(count) => {
             area.truncate(count);
             rt.print(message_line(rt.alloc(), area.as_slice())?)?;
@@ -81,8 +81,8 @@ fn tell_read<L: Link>(
 }
 
 // Tells whether a message waits.
-fn tell_waiting<L: Link>(rt: &HostRuntime, link: &L, from: u32, to: u32) -> anyhow::Result<Turn> {
-    match link.waiting(from, to) {
+fn tell_waiting<L: Link>(rt: &HostRuntime, link: &L, pair: Pair) -> anyhow::Result<Turn> {
+    match link.waiting(pair) {
         Ok(true) => rt.print("yes\n")?,
         Ok(false) => rt.print("no\n")?,
         Err(fault) => println!(rt; "{fault}")?,
@@ -96,6 +96,11 @@ fn tell_unknown(rt: &HostRuntime) -> anyhow::Result<Turn> {
     Ok(Turn::Told)
 }
 
+// The sender and the receiver that a line names.
+fn pair(from: u32, to: u32) -> Pair {
+    Pair { from, to }
+}
+
 // Makes the call that a line asks for.
 fn make_call<L: Link>(
     rt: &HostRuntime,
@@ -104,10 +109,13 @@ fn make_call<L: Link>(
     room: u32,
 ) -> anyhow::Result<Turn> {
     match (asked.call, asked.numbers.as_slice()) {
-        (LinkCall::Send, [from, to, words @ ..]) => tell_done(rt, link.send(*from, *to, words)),
-        (LinkCall::Read, [from, to]) => tell_read(rt, link, *from, *to, room),
-        (LinkCall::Clear, [from, to]) => tell_done(rt, link.clear(*from, *to)),
-        (LinkCall::Waiting, [from, to]) => tell_waiting(rt, link, *from, *to),
+        (LinkCall::Send, [from, to, words @ ..]) => tell_done(
+            rt,
+            link.send(pair(*from, *to), words),
+        ),
+        (LinkCall::Read, [from, to]) => tell_read(rt, link, pair(*from, *to), room),
+        (LinkCall::Clear, [from, to]) => tell_done(rt, link.clear(pair(*from, *to))),
+        (LinkCall::Waiting, [from, to]) => tell_waiting(rt, link, pair(*from, *to)),
         (LinkCall::Area, [room]) => Ok(Turn::Area(*room)),
         (LinkCall::Trim, []) => Ok(Turn::Pause(Pause::Layer)),
         (LinkCall::Cell | LinkCall::Line, [ranks, longest]) => Ok(Turn::Pause(Pause::Open(
