@@ -1,31 +1,17 @@
 -- Boxes that lie one after the other in memory. Assumes nothing.
-use Rattle.std.proofs.Common.{◌≡◌, ℕ, zero, suc, ◌+◌, ◌-◌, ◌*◌, ◌<◌, ◌≤◌, Bool, true, false, cond, eqb, leb, ◌⊎◌, List, [], ◌∷◌, ◌++◌, length, get_or, take, drop, set, replicate, sym, refl, ap, ◌∙◌, inl, inr, add-mul, one-mul, add-one, arith, length-drop, length-take}
+use Rattle.std.proofs.Common.{◌≡◌, ℕ, ◌+◌, ◌-◌, ◌*◌, ◌<◌, ◌≤◌, Bool, true, false, cond, ◌⊎◌, List, [], ◌∷◌, ◌++◌, length, get_or, take, drop, set, replicate, sym, refl, ap, ◌∙◌, inl, inr, arith, length-drop}
 use lib.Seq.{paste}
 use borrow.Rule.Slice.PartMut.{put_mid}
 use Rattle.boxes.specs.Cells.{cell_words, place, cell, box_of, cell_model}
-use Rattle.boxes.specs.Sizes.{WordsBelow}
-use Rattle.boxes.proofs.Within.{part-below}
+use Rattle.boxes.specs.Sizes.{suffices, started}
+use Rattle.boxes.specs.CellLaws.{next_place, place-within, box_is}
 use Rattle.link.proofs.Links.{same_link}
-use Rattle.link.specs.Model.{BoxState, Empty, Holds, Spoilt, is_pair, changed, put, vacant, Allowed, LinkLaws}
-use Rattle.std.proofs.lemmas.Nat.{mul-le, mul-add-lt, div-mul-add, mod-mul-add}
-use Rattle.std.proofs.lemmas.List.Edits.{paste_none, paste_more, paste-paste}
-use Rattle.std.proofs.lemmas.List.{append_assoc, length-append, length-take-le, drop-take, drop_more, take_all, take_at, take-take, take-append-drop, drop-drop, drop-append-le, drop-replicate}
+use Rattle.link.specs.Model.{BoxState, Empty, Holds, is_pair, changed, put, vacant}
+use Rattle.std.proofs.lemmas.Nat.{div-mul-add, mod-mul-add}
+use Rattle.std.proofs.lemmas.List.Edits.{paste_none, paste_more}
+use Rattle.std.proofs.lemmas.List.{append_assoc, length-append, length-take-le, drop-take, take_all, take_at, take-append-drop, drop-drop, drop-append-le, length-replicate, places}
 use Rattle.std.proofs.lemmas.Slice.{take-put_mid_below, drop-put_mid, between-put_mid}
 use Rattle.std.proofs.lemmas.Bool.Decides.{nat_tests}
-
--- one place more is `k` words more
-next_place : (x y k : ℕ) → x < y → x * k + k ≤ y * k
-next_place x y k h =
-    let p : (x + 1) * k ≤ y * k = mul-le (x + 1) k y k (omega arith) (omega arith) in
-    omega (arith, p, add-mul x 1 k, one-mul k)
-
-pair_below : (n from to : ℕ) → is_pair n from to ≡ true → (from < n) × (to < n)
-pair_below n from to h = grind (arith, nat_tests)
-
-pub place-within : (n l i j : ℕ) → is_pair n i j ≡ true → place n l i j + (l + 1) ≤ cell_words n l
-place-within n l i j pair =
-    let p = pair_below n i j pair in
-    next_place (i * n + j) (n * n) (l + 1) (mul-add-lt i n j n p.0 p.1)
 
 place-apart : (n l i j i' j' : ℕ) → j < n → j' < n → (i ≡ i' → j ≡ j' → ⊥) → (place n l i j + (l + 1) ≤ place n l i' j') ⊎ (place n l i' j' + (l + 1) ≤ place n l i j)
 place-apart n l i j i' j' p q apart =
@@ -64,7 +50,7 @@ cells_put n l from to ws c b pair room len box = same_link _ _ refl refl (λ i j
         grind (arith, nat_tests)
 
 -- words written at the start of a part of `k` words
-paste-part : (ws s : List ℕ) (at n k : ℕ) → n ≡ length s → n ≤ k → at + k ≤ length ws → paste ws at s n ≡ put_mid at k ws (s ++ drop n (take k (drop at ws)))
+pub paste-part : (ws s : List ℕ) (at n k : ℕ) → n ≡ length s → n ≤ k → at + k ≤ length ws → paste ws at s n ≡ put_mid at k ws (s ++ drop n (take k (drop at ws)))
 paste-part ws s at n k len fits room =
     let x = drop at ws in
     let d = length-drop at ws in
@@ -109,68 +95,31 @@ module _ (n l from to : ℕ) (ws : List ℕ) (pair : is_pair n from to ≡ true)
       let w = within in
       ap (cell_model n l) (set-part ws at 0 (omega arith)) ∙ cells_paste (0 ∷ []) Empty (omega arith) refl
 
-  pub cells_filled : (m : List ℕ) → 0 < length m → length m ≤ l → cell_model n l (paste (set ws at (length m)) (at + 1) m (length m)) ≡ put (cell_model n l ws) from to (Holds m)
+  pub cells_filled : (m : List ℕ) → 0 < length m → length m ≤ l → cell_model n l (paste ws at (length m ∷ m) (length m + 1)) ≡ put (cell_model n l ws) from to (Holds m)
   cells_filled m some short =
-      let w = within in
       let k = length m in
-      let join = ap (λ t. paste t (at + 1) m k) (set-part ws at k (omega arith)) ∙ paste-paste ws at (k ∷ []) m 1 k refl refl (omega arith) in
-      let one : 1 + k ≡ length (k ∷ m) = omega arith in
+      let one : k + 1 ≡ length (k ∷ m) = omega arith in
       let t = take_at m (drop (length (k ∷ m)) (take (l + 1) (drop at ws))) k refl in
       let box : box_of l (over (k ∷ m)) ≡ Holds m = grind (arith, nat_tests) in
-      ap (cell_model n l) (join ∙ ap (paste ws at (k ∷ m)) one) ∙ cells_paste (k ∷ m) (Holds m) (omega arith) box
+      ap (cell_model n l) (ap (paste ws at (k ∷ m)) one) ∙ cells_paste (k ∷ m) (Holds m) (omega arith) box
 
--- The first word of a box is its length, 0 where it is empty.
-cell-head : (l at : ℕ) (ws : List ℕ) → at < length ws → cell l at ws ≡ get_or ws at 0 ∷ take l (drop (at + 1) ws)
-cell-head l at ws h = ap (take (l + 1)) (drop_more ws at 0 h) ∙ ap (λ n. take n (get_or ws at 0 ∷ drop (at + 1) ws)) (add-one l)
-
--- a box by its length word
-abbrev pub box_at : ℕ → ℕ → List ℕ → BoxState
-box_at l at ws = cond (eqb (get_or ws at 0) 0) Empty (cond (leb (get_or ws at 0) l) (Holds (take (get_or ws at 0) (drop (at + 1) ws))) Spoilt)
-
-pub box-is : (l at : ℕ) (ws : List ℕ) → at + (l + 1) ≤ length ws → box_of l (cell l at ws) ≡ box_at l at ws
-box-is l at ws h =
-    let n = get_or ws at 0 in
-    let t = take-take n l (drop (at + 1) ws) in
-    rw (cell-head l at ws (omega arith)) (grind (arith, nat_tests))
-
--- The laws.
-box-allowed : (n l at : ℕ) (ws : List ℕ) → at + (l + 1) ≤ n → n ≤ length ws → WordsBelow n ws → Allowed l (box_at l at ws)
-box-allowed n l at ws within room words = by (eqb size 0) refl (leb size l) refl
+-- The start: every length word is 0.
+pub cells_vacant : (n l : ℕ) (ws : List ℕ) → cell_words n l ≤ length ws → ((k : ℕ) → k < cell_words n l → get_or ws k 0 ≡ 0) → cell_model n l ws ≡ vacant n l
+cells_vacant n l ws room zeros = same_link _ _ refl refl (λ i j. at i j (is_pair n i j) refl)
   where
-    size : ℕ
-    size = get_or ws at 0
-
-    by : (t : Bool) → eqb size 0 ≡ t → (u : Bool) → leb size l ≡ u → Allowed l (cond t Empty (cond u (Holds (take size (drop (at + 1) ws))) Spoilt))
-    by true p u q = tt
-    by false p false q = tt
-    by false p true q =
-        let short : size ≤ l = grind (arith, nat_tests) in
-        let len : length (take size (drop (at + 1) ws)) ≡ size = simp (length-take, length-drop) (omega arith) in
-        (grind (arith, nat_tests), omega arith, part-below n (at + 1) size ws (omega arith) words)
-
-pub cell-lawful : (n l : ℕ) (ws : List ℕ) → n ≤ 32 → l ≤ 5200 → cell_words n l ≤ length ws → WordsBelow (cell_words n l) ws → LinkLaws (cell_model n l ws)
-cell-lawful n l ws few short room words = record { few = few; short = short; allowed = λ i j. at i j (is_pair n i j) refl }
-  where
-    at : (i j : ℕ) (t : Bool) → is_pair n i j ≡ t → Allowed l (cond t (box_of l (cell l (place n l i j) ws)) Empty)
+    at : (i j : ℕ) (t : Bool) → is_pair n i j ≡ t → cond t (box_of l (cell l (place n l i j) ws)) Empty ≡ Empty
     at i j true pair =
         let within = place-within n l i j pair in
-        rw (box-is l (place n l i j) ws (omega arith)) (box-allowed (cell_words n l) l (place n l i j) ws within room words)
-    at i j false none = tt
+        let none = zeros (place n l i j) (omega arith) in
+        rw (box_is l (place n l i j) ws (omega arith), none)
+    at i j false none = refl
 
--- The start.
-zero-box : (l n j : ℕ) → box_of l (take n (replicate j 0)) ≡ Empty
-zero-box l zero j = refl
-zero-box l (suc n) zero = refl
-zero-box l (suc n) (suc j) = refl
-
-pub cells_vacant : (n l k : ℕ) → cell_model n l (replicate k 0) ≡ vacant n l
-cells_vacant n l k = same_link _ _ refl refl (λ i j. at i j)
+-- the sizes that were asked for, or none
+pub cells_started : (ranks longest brought n l : ℕ) (zeros rest : List ℕ) → n ≡ cond (suffices ranks longest (cell_words ranks longest) brought) ranks 0 → l ≡ cond (suffices ranks longest (cell_words ranks longest) brought) longest 0 → zeros ≡ replicate (cell_words n l) 0 → cell_model n l (zeros ++ rest) ≡ started ranks longest (cell_words ranks longest) brought
+cells_started ranks longest brought n l zeros rest p q z =
+    let vacated : cell_model n l (zeros ++ rest) ≡ vacant n l = rw z (cells_vacant n l _ (simp (length-append, length-replicate) (omega arith)) (λ k h. grind (arith, places))) in
+    vacated ∙ by (suffices ranks longest (cell_words ranks longest) brought) p q
   where
-    at : (i j : ℕ) → (cell_model n l (replicate k 0)).boxes i j ≡ Empty
-    at i j =
-        let p = place n l i j in
-        let e : box_of l (cell l p (replicate k 0)) ≡ Empty = ap (λ t. box_of l (take (l + 1) t)) (drop-replicate p k 0) ∙ zero-box l (l + 1) (k - p) in
-        grind (arith, nat_tests)
-
-pub no_cells : (ws : List ℕ) → cell_model 0 0 ws ≡ vacant 0 0
-no_cells ws = same_link _ _ refl refl (λ i j. grind (arith, nat_tests))
+    by : (t : Bool) → n ≡ cond t ranks 0 → l ≡ cond t longest 0 → vacant n l ≡ cond t (vacant ranks longest) (vacant 0 0)
+    by true p q = rw (p, q)
+    by false p q = rw (p, q)

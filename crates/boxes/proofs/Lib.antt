@@ -3,4 +3,3 @@ pub mod Cells
 pub mod LineCalls
 pub mod Lines
 pub mod Places
-pub mod Within

@@ -1,8 +1,9 @@
 -- Entries and their words. Assumes nothing.
-use Rattle.std.proofs.Common.{◌≡◌, ℕ, zero, suc, ◌+◌, ◌-◌, ◌*◌, ◌<◌, ◌≤◌, Bool, true, false, cond, eqb, ◌⊎◌, List, [], ◌∷◌, ◌++◌, length, get_or, take, drop, sym, refl, ap, ◌∙◌, inl, inr, add-mul, one-mul, add-one, arith}
+use Rattle.std.proofs.Common.{◌≡◌, ℕ, zero, suc, ◌+◌, ◌-◌, ◌*◌, ◌<◌, ◌≤◌, Bool, true, false, cond, eqb, ◌⊎◌, List, [], ◌∷◌, ◌++◌, length, get_or, take, drop, Some, None, Option, sym, refl, ap, ◌∙◌, inl, inr, add-mul, one-mul, add-one, arith}
 use Rattle.std.proofs.lemmas.Nat.{mul-le}
-use Rattle.std.proofs.lemmas.List.{append_assoc, length-append, length-drop, length-take-le, get_or-drop, get_or-take, take_at, drop_at, drop-drop}
+use Rattle.std.proofs.lemmas.List.{append_assoc, length-append, length-drop, get_or-drop, take_at, drop_at, drop-drop}
 use Rattle.std.proofs.lemmas.Bool.Decides.{nat_tests}
+use Rattle.std.specs.Option.{option_map}
 use Rattle.link.specs.Model.{BoxState, Empty, Holds, Spoilt, is_empty}
 use Rattle.boxes.specs.Lines.{Entry, spelled, parsed, entries, lookup, place, removed, is_sound, is_good, Spelt}
 
@@ -137,23 +138,23 @@ pub record Split (b : ℕ) (es : List Entry) : Type 0 where
   pub entry : Entry
   pub behind : List Entry
   pub all : es ≡ before ++ entry ∷ behind
-  pub start : place b es ≡ length (spelled before)
+  pub start : place b es ≡ Some (length (spelled before))
   pub held : lookup b es ≡ Holds entry.message
   pub left : removed b es ≡ before ++ behind
 
-pub split : (b : ℕ) (es : List Entry) → ((lookup b es ≡ Empty) × (place b es ≡ length (spelled es))) ⊎ Split b es
+pub split : (b : ℕ) (es : List Entry) → ((lookup b es ≡ Empty) × (place b es ≡ None)) ⊎ Split b es
 split b [] = inl (refl, refl)
 split b (e ∷ es) = at (eqb e.box b) refl (split b es)
   where
-    at : (t : Bool) → eqb e.box b ≡ t → ((lookup b es ≡ Empty) × (place b es ≡ length (spelled es))) ⊎ Split b es → ((lookup b (e ∷ es) ≡ Empty) × (place b (e ∷ es) ≡ length (spelled (e ∷ es)))) ⊎ Split b (e ∷ es)
+    at : (t : Bool) → eqb e.box b ≡ t → ((lookup b es ≡ Empty) × (place b es ≡ None)) ⊎ Split b es → ((lookup b (e ∷ es) ≡ Empty) × (place b (e ∷ es) ≡ None)) ⊎ Split b (e ∷ es)
     at true q h = inr (record { before = []; entry = e; behind = es; all = refl; start = rw q; held = rw q; left = rw q })
-    at false q (inl h) = inl (rw q h.0, rw q (simp length-append (omega arith)))
+    at false q (inl h) = inl (rw q h.0, rw (q, h.1))
     at false q (inr s) = inr (record {
       before = e ∷ s.before;
       entry = s.entry;
       behind = s.behind;
       all = ap (λ t. e ∷ t) s.all;
-      start = rw q (simp length-append (omega (arith, s.start)));
+      start = rw (q, s.start) (ap Some (simp length-append (omega arith)));
       held = rw q s.held;
       left = rw q (ap (λ t. e ∷ t) s.left);
     })
@@ -190,62 +191,55 @@ front : (ws : List ℕ) (at : ℕ) (es : List Entry) → drop at ws ≡ spelled 
 front ws at [] h lt = absurd (omega (arith, ap length h, length-drop at ws))
 front ws at (e ∷ es) h lt = record { entry = e; behind = es; all = refl; head = head ws at e es h lt }
 
+-- places counted from further on
+shifted-none : (o : Option ℕ) → o ≡ option_map (λ k. 0 + k) o
+shifted-none None = refl
+shifted-none (Some x) = ap Some (omega arith)
+
+shifted-more : (a b c : ℕ) (o : Option ℕ) → a + b ≡ c → option_map (λ k. a + k) (option_map (λ k. b + k) o) ≡ option_map (λ k. c + k) o
+shifted-more a b c None e = refl
+shifted-more a b c (Some x) e = ap Some (omega arith)
+
 -- The search for the entry of a box: at `at` some entries are left, and the entry is sought among them.
 pub record Walk (ws : List ℕ) (b at : ℕ) : Type 0 where
   pub left : List Entry
   pub words : drop at ws ≡ spelled left
-  pub sought : place b (entries ws) ≡ at + place b left
+  pub sought : place b (entries ws) ≡ option_map (λ k. at + k) (place b left)
 
 pub walk_start : (ws : List ℕ) (b : ℕ) → Spelt ws → Walk ws b 0
-walk_start ws b h = record { left = entries ws; words = h; sought = omega arith }
+walk_start ws b h = record { left = entries ws; words = h; sought = shifted-none (place b (entries ws)) }
 
--- in the first `used` words of `ws`
-module _ (ws : List ℕ) (used b at : ℕ) (within : used ≤ length ws) (w : Walk (take used ws) b at) where
-  len : length (take used ws) ≡ used
-  len = length-take-le used ws within
-
-  pub walk_end : used ≤ at → at ≡ place b (entries (take used ws))
+module _ (ws : List ℕ) (b at : ℕ) (w : Walk ws b at) where
+  pub walk_end : length ws ≤ at → None ≡ place b (entries ws)
   walk_end h = ended w.left w.words w.sought
     where
-      ended : (es : List Entry) → drop at (take used ws) ≡ spelled es → place b (entries (take used ws)) ≡ at + place b es → at ≡ place b (entries (take used ws))
-      ended [] p q = omega arith
-      ended (e ∷ es) p q = absurd (omega (arith, ap length p, length-drop at (take used ws), len))
+      ended : (es : List Entry) → drop at ws ≡ spelled es → place b (entries ws) ≡ option_map (λ k. at + k) (place b es) → None ≡ place b (entries ws)
+      ended [] p q = sym q
+      ended (e ∷ es) p q = absurd (omega (arith, ap length p, length-drop at ws))
 
-  module _ (lt : at < used) where
-    seen : Front (take used ws) at w.left
-    seen = front (take used ws) at w.left w.words (omega (arith, len))
+  module _ (lt : at < length ws) where
+    seen : Front ws at w.left
+    seen = front ws at w.left w.words lt
 
-    pub walk_within : at + (2 + get_or ws (at + 1) 0) ≤ used
-    walk_within =
-        let f = seen in
-        let l = len in
-        let s = f.head.within in
-        let second = get_or-take used ws (at + 1) 0 (omega arith) in
-        omega (arith, f.head.size)
+    pub walk_within : at + (2 + get_or ws (at + 1) 0) ≤ length ws
+    walk_within = let f = seen in omega (arith, f.head.size, f.head.within)
 
-    pub walk_here : get_or ws at 0 ≡ b → at ≡ place b (entries (take used ws))
+    first : place b w.left ≡ cond (eqb (get_or ws at 0) b) (Some 0) (option_map (λ k. 2 + get_or ws (at + 1) 0 + k) (place b seen.behind))
+    first = let f = seen in rw (f.head.box, f.head.size) (ap (place b) f.all)
+
+    pub walk_here : get_or ws at 0 ≡ b → Some at ≡ place b (entries ws)
     walk_here h =
-        let f = seen in
-        let p : place b w.left ≡ place b (f.entry ∷ f.behind) = ap (place b) f.all in
-        let s = w.sought in
-        let x = f.head.box in
-        let first = get_or-take used ws at 0 lt in
-        grind (arith, nat_tests)
+        let here : eqb (get_or ws at 0) b ≡ true = grind (arith, nat_tests) in
+        ap Some (omega arith) ∙ sym (w.sought ∙ ap (option_map (λ k. at + k)) (rw here at first))
 
-    pub walk_more : (get_or ws at 0 ≡ b → ⊥) → Walk (take used ws) b (at + (2 + get_or ws (at + 1) 0))
+    pub walk_more : (get_or ws at 0 ≡ b → ⊥) → Walk ws b (at + (2 + get_or ws (at + 1) 0))
     walk_more h =
         let f = seen in
-        let i = walk_within in
-        let first = get_or-take used ws at 0 lt in
-        let second = get_or-take used ws (at + 1) 0 (omega arith) in
-        let n : at + (2 + get_or ws (at + 1) 0) ≡ at + (2 + length f.entry.message) = omega (arith, f.head.size) in
-        let p : place b w.left ≡ place b (f.entry ∷ f.behind) = ap (place b) f.all in
-        let s = w.sought in
-        let x = f.head.box in
+        let other : eqb (get_or ws at 0) b ≡ false = grind (arith, nat_tests) in
         record {
           left = f.behind;
-          words = ap (λ k. drop k (take used ws)) n ∙ f.head.rest;
-          sought = grind (arith, nat_tests);
+          words = ap (λ k. drop (at + (2 + k)) ws) f.head.size ∙ f.head.rest;
+          sought = w.sought ∙ ap (option_map (λ k. at + k)) (rw other at first) ∙ shifted-more at _ _ _ refl;
         }
 
 -- The entry of a box that was found in the words of a line.
@@ -257,23 +251,24 @@ pub record Found (b : ℕ) (ws : List ℕ) (at : ℕ) : Type 0 where
   pub front : take at ws ≡ spelled parts.before
   pub rest : drop (at + (2 + length parts.entry.message)) ws ≡ spelled parts.behind
 
-module _ (ws : List ℕ) (b at : ℕ) (h : Spelt ws) (is : at ≡ place b (entries ws)) where
-  -- at the end of the words: no entry
-  pub missing : length ws ≤ at → lookup b (entries ws) ≡ Empty
-  missing lt = elim (split b (entries ws)) [
+module _ (ws : List ℕ) (b : ℕ) where
+  pub missing : None ≡ place b (entries ws) → lookup b (entries ws) ≡ Empty
+  missing is = elim (split b (entries ws)) [
     | inl p ↦ p.0
-    | inr s ↦ absurd (omega (arith, is, s.start, simp (spelled_append, length-append) at (ap length (h ∙ ap spelled s.all))))
+    | inr s ↦ let e = s.start in let z : ◌≡◌ {A = ℕ} 0 1 = cc in absurd (omega arith)
   ]
 
-  pub found : at < length ws → Found b ws at
-  found lt = elim (split b (entries ws)) [
-    | inl p ↦ absurd (omega (arith, is, p.1, ap length h))
+  pub found : (at : ℕ) → Spelt ws → Some at ≡ place b (entries ws) → Found b ws at
+  found at h is = elim (split b (entries ws)) [
+    | inl p ↦ let e = p.1 in let z : ◌≡◌ {A = ℕ} 0 1 = cc in absurd (omega arith)
     | inr s ↦
         let e = s.entry in
         let x = spelled s.before in
         let y = spelled (e ∷ s.behind) in
-        let start : length x ≡ at = sym (is ∙ s.start) in
+        let place_is = s.start in
+        let start : length x ≡ at = cc in
         let all : ws ≡ x ++ y = h ∙ ap spelled s.all ∙ spelled_append s.before (e ∷ s.behind) in
+        let lt : at < length ws = omega (arith, start, simp length-append at (ap length all)) in
         let cut : drop at ws ≡ y = ap (drop at) all ∙ drop_at x y at start in
         let f = head ws at e s.behind cut lt in
         record {

@@ -5,4 +5,4 @@ use Rattle.link.specs.Model.{LinkModel}
 
 -- the model of a cell link, from its words
 abbrev pub cell_link_model : CellLink → LinkModel
-cell_link_model s = cell_model s.ranks s.longest s.words.now
+cell_link_model s = cell_model s.sizes.ranks s.sizes.longest s.words.now

@@ -14,4 +14,4 @@ queue s = entries (used_words s)
 
 -- the model of a line link, from its words
 abbrev pub line_link_model : LineLink → LinkModel
-line_link_model s = line_model s.ranks s.longest (used_words s)
+line_link_model s = line_model s.sizes.ranks s.sizes.longest (used_words s)

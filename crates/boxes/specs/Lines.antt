@@ -1,7 +1,9 @@
 -- How the line link lays its waiting messages out in words: one behind the other in order of sending, each behind the
 -- number of its box and its length. Assumes nothing.
-use Rattle.std.specs.Prelude.{◌≡◌, ℕ, zero, suc, ◌+◌, ◌-◌, ◌*◌, Bool, true, cond, ◌&&◌, List, [], ◌∷◌, ◌++◌, length, take, drop, ◌==◌, nat_lt}
-use Rattle.link.specs.Calls.{is_length, kept, send_ground, clear_ground}
+use Rattle.std.specs.Prelude.{◌≡◌, ℕ, zero, suc, ◌+◌, ◌-◌, ◌*◌, Bool, true, cond, ◌&&◌, List, [], ◌∷◌, ◌++◌, length, take, drop, Some, None, Option, ◌==◌, nat_lt}
+use Rattle.tile.specs.Answers.{kept}
+use Rattle.std.specs.Option.{option_map}
+use Rattle.link.specs.Calls.{is_length, send_fault, clear_fault}
 use Rattle.link.specs.Model.{LinkModel, BoxState, Empty, Holds, is_empty, is_pair}
 
 -- how many boxes a link has
@@ -42,10 +44,10 @@ abbrev pub lookup : ℕ → List Entry → BoxState
 lookup box [] = Empty
 lookup box (e ∷ es) = cond (e.box == box) (Holds e.message) (lookup box es)
 
--- where the entry of a box starts, the end of all where there is none
-abbrev pub place : ℕ → List Entry → ℕ
-place box [] = 0
-place box (e ∷ es) = cond (e.box == box) 0 (2 + length e.message + place box es)
+-- where the entry of a box starts, if there is one
+abbrev pub place : ℕ → List Entry → Option ℕ
+place box [] = None
+place box (e ∷ es) = cond (e.box == box) (Some 0) (option_map (λ at. 2 + length e.message + at) (place box es))
 
 -- the entries without that of a box
 abbrev pub removed : ℕ → List Entry → List Entry
@@ -80,8 +82,8 @@ line_model ranks longest ws = record {
 -- the waiting messages after a send: the sent one is the last
 abbrev pub Queued : LinkModel → ℕ → ℕ → List ℕ → List Entry → List Entry → Type 0
 Queued m from to words es es' =
-    es' ≡ kept (send_ground m from to (length words)) (es ++ record { box = box_number m.ranks from to; message = words } ∷ []) es
+    es' ≡ kept (send_fault m from to (length words)) (es ++ record { box = box_number m.ranks from to; message = words } ∷ []) es
 
 -- the waiting messages after a clear: the others stay in their order
 abbrev pub Dequeued : LinkModel → ℕ → ℕ → List Entry → List Entry → Type 0
-Dequeued m from to es es' = es' ≡ kept (clear_ground m from to) (removed (box_number m.ranks from to) es) es
+Dequeued m from to es es' = es' ≡ kept (clear_fault m from to) (removed (box_number m.ranks from to) es) es

@@ -1,17 +1,19 @@
 // The cell link as a link.
-ghost use Rattle.std.specs.Prelude.{◌≡◌, ◌+◌, ◌≤◌, true, length};
-ghost use Rattle.std.proofs.Math.Seq.{paste};
+ghost use Rattle.std.specs.Prelude.{◌≡◌, ◌+◌, ◌≤◌, cond, length, IfOk};
+ghost use Rattle.tile.specs.declared.fault.Fault.TheVariants.{Link as LinkFault};
+ghost use Rattle.tile.specs.declared.fault.Ground.TheVariants.{Outside};
 ghost use Rattle.boxes.specs.CellState.{cell_link_model};
+ghost use Rattle.boxes.specs.CellLaws.{lawful};
 ghost use Rattle.boxes.specs.Cells.{cell_words, place};
 ghost use Rattle.boxes.specs.Sizes.{started};
 ghost use Rattle.link.specs.Calls.{Read};
 ghost use Rattle.link.specs.Model.{is_pair};
 
 use super::cell::CellLink;
-use super::messages::copy_message;
-use super::sizes::cells_fit;
+use super::messages::{read_message, write_message};
+use super::sizes::Sizes;
 use link::Link;
-use link::calls::{is_length, is_pair, link_fault};
+use link::pair::{Pair, is_length};
 use tile::fault::{Fault, Ground};
 
 impl<'a> CellLink<'a> {
@@ -19,111 +21,73 @@ impl<'a> CellLink<'a> {
     pub fn new(ranks: u32, longest: u32, words: &'a mut [u32]) -> CellLink<'a>
         ensures { cell_link_model result ≡ started ranks longest (cell_words ranks longest) (length words.old) }
     {
-        if !cells_fit(ranks, longest, words.len()) {
-            return CellLink {
-                ranks: 0,
-                longest: 0,
-                words,
-            };
-        }
-        words.fill(0);
-        CellLink {
-            ranks,
-            longest,
-            words,
-        }
+        let sizes = Sizes::new(ranks, longest)
+            .filter(|sizes| sizes.cell_words() <= words.len())
+            .unwrap_or_default();
+        words[..sizes.cell_words()].fill(0);
+        CellLink { sizes, words }
     }
 
     // Where the box of a pair starts.
-    fn start(&self, from: u32, to: u32) -> usize
-        requires { is_pair self.now.ranks from to ≡ true }
-        ensures is { result ≡ place self.now.ranks self.now.longest from to }
-        ensures within { result + (self.now.longest + 1) ≤ cell_words self.now.ranks self.now.longest }
+    fn start(&self, pair: Pair) -> Result<usize, Fault>
+        ensures is { result ≡ cond (is_pair self.now.sizes.ranks pair.from pair.to) (Ok (place self.now.sizes.ranks self.now.sizes.longest pair.from pair.to)) (Err (LinkFault Outside pair.to)) }
+        ensures within { IfOk result (λ at. at + (self.now.sizes.longest + 1) ≤ cell_words self.now.sizes.ranks self.now.sizes.longest) }
     {
-        (from as usize * self.ranks as usize + to as usize) * (self.longest as usize + 1)
-    }
-
-    // Writes words from `at` on.
-    fn write(&mut self, at: usize, message: &[u32])
-        requires room { at + length message.now ≤ length self.old.words.now }
-        ensures ranks { self.new.ranks ≡ self.old.ranks }
-        ensures longest { self.new.longest ≡ self.old.longest }
-        ensures words { self.new.words.now ≡ paste self.old.words.now at message.now (length message.now) }
-    {
-        for (i, word) in message.iter().enumerate() {
-            self.words[at + i] = *word;
-        }
+        let Sizes { ranks, longest } = self.sizes;
+        pair.require(pair.is_in(ranks), Ground::Outside)?;
+        Ok((pair.from as usize * ranks as usize + pair.to as usize) * (longest as usize + 1))
     }
 
     // The call `read`, which changes no word.
-    fn read_words(&self, from: u32, to: u32, area: &mut [u32]) -> Result<usize, Fault>
-        ensures { Read (cell_link_model self.now) (cell_link_model self.now) from to area.old area.new result }
+    // Stays: on `&self`, since a part that a `&mut self` lends to be read leaves a proof without the words.
+    fn read_words(&self, pair: Pair, area: &mut [u32]) -> Result<usize, Fault>
+        ensures { Read (cell_link_model self.now) (cell_link_model self.now) pair.from pair.to area.old area.new result }
     {
-        if !is_pair(self.ranks, from, to) {
-            return Err(link_fault(Ground::Outside, to));
-        }
-        if area.len() < self.longest as usize {
-            return Err(link_fault(Ground::TooShort, to));
-        }
-        let at = self.start(from, to);
-        if self.words[at] == 0 {
-            return Err(link_fault(Ground::BoxEmpty, to));
-        }
-        if self.words[at] > self.longest {
-            return Err(link_fault(Ground::Spoilt, to));
-        }
-        Ok(copy_message(self.words, at, area))
+        let at = self.start(pair)?;
+        pair.require(self.sizes.longest as usize <= area.len(), Ground::TooShort)?;
+        pair.require(self.words[at] != 0, Ground::BoxEmpty)?;
+        pair.require(self.words[at] <= self.sizes.longest, Ground::Spoilt)?;
+        Ok(read_message(&self.words[at..], area))
     }
 }
 
 impl<'a> Link for CellLink<'a> {
     ghost model = { cell_link_model };
 
+    ghost laws = { lawful };
+
     fn ranks(&self) -> u32 {
-        self.ranks
+        self.sizes.ranks
     }
 
     fn longest(&self) -> u32 {
-        self.longest
+        self.sizes.longest
     }
 
-    fn send(&mut self, from: u32, to: u32, words: &[u32]) -> Result<(), Fault> {
-        if !is_pair(self.ranks, from, to) {
-            return Err(link_fault(Ground::Outside, to));
-        }
-        if !is_length(self.longest, words.len()) {
-            return Err(link_fault(Ground::WrongLength, to));
-        }
-        let at = self.start(from, to);
-        if self.words[at] != 0 {
-            return Err(link_fault(Ground::BoxTaken, to));
-        }
-        self.words[at] = words.len() as u32;
-        self.write(at + 1, words);
+    fn send(&mut self, pair: Pair, words: &[u32]) -> Result<(), Fault> {
+        let at = self.start(pair)?;
+        pair.require(
+            is_length(self.sizes.longest, words.len()),
+            Ground::WrongLength,
+        )?;
+        pair.require(self.words[at] == 0, Ground::BoxTaken)?;
+        write_message(&mut self.words[at..], words);
         Ok(())
     }
 
-    fn read(&mut self, from: u32, to: u32, area: &mut [u32]) -> Result<usize, Fault> {
-        self.read_words(from, to, area)
+    fn read(&mut self, pair: Pair, area: &mut [u32]) -> Result<usize, Fault> {
+        self.read_words(pair, area)
     }
 
-    fn clear(&mut self, from: u32, to: u32) -> Result<(), Fault> {
-        if !is_pair(self.ranks, from, to) {
-            return Err(link_fault(Ground::Outside, to));
-        }
-        let at = self.start(from, to);
-        if self.words[at] == 0 {
-            return Err(link_fault(Ground::BoxEmpty, to));
-        }
+    fn clear(&mut self, pair: Pair) -> Result<(), Fault> {
+        let at = self.start(pair)?;
+        pair.require(self.words[at] != 0, Ground::BoxEmpty)?;
         self.words[at] = 0;
         Ok(())
     }
 
-    fn waiting(&self, from: u32, to: u32) -> Result<bool, Fault> {
-        if !is_pair(self.ranks, from, to) {
-            return Err(link_fault(Ground::Outside, to));
-        }
-        let at = self.start(from, to);
+    fn waiting(&self, pair: Pair) -> Result<bool, Fault> {
+        let at = self.start(pair)?;
         Ok(self.words[at] != 0)
     }
 }

@@ -1,18 +1,20 @@
 // The line link as a link.
-ghost use Rattle.std.specs.Prelude.{◌≡◌, ◌+◌, ◌≤◌, true, length, drop};
-ghost use Rattle.std.proofs.Math.Seq.{paste};
+ghost use Rattle.std.specs.Prelude.{◌≡◌, ◌+◌, ◌≤◌, cond, length, IfSome, slice_index};
+ghost use Rattle.tile.specs.declared.fault.Fault.TheVariants.{Link as LinkFault};
+ghost use Rattle.tile.specs.declared.fault.Ground.TheVariants.{Outside};
 ghost use Rattle.link.specs.Model.{is_pair};
 ghost use Rattle.link.specs.Calls.{Send, Read, Clear};
 ghost use Rattle.boxes.specs.Lines.{line_words, box_number, place, Queued, Dequeued};
-ghost use Rattle.boxes.specs.Sizes.{started};
+ghost use Rattle.boxes.specs.LineLaws.{lawful};
 ghost use Rattle.boxes.specs.LineState.{queue, line_link_model};
+ghost use Rattle.boxes.specs.Sizes.{started};
 
-use super::entries::{box_number, find};
+use super::entries::{box_number, find, write_entry};
 use super::line::LineLink;
-use super::messages::copy_message;
-use super::sizes::line_fits;
+use super::messages::read_message;
+use super::sizes::Sizes;
 use link::Link;
-use link::calls::{is_length, is_pair, link_fault};
+use link::pair::{Pair, is_length};
 use tile::fault::{Fault, Ground};
 
 impl<'a> LineLink<'a> {
@@ -20,138 +22,92 @@ impl<'a> LineLink<'a> {
     pub fn new(ranks: u32, longest: u32, words: &'a mut [u32]) -> LineLink<'a>
         ensures { line_link_model result ≡ started ranks longest (line_words ranks longest) (length words.old) }
     {
-        if !line_fits(ranks, longest, words.len()) {
-            return LineLink {
-                ranks: 0,
-                longest: 0,
-                used: 0,
-                words,
-            };
-        }
+        let sizes = Sizes::new(ranks, longest)
+            .filter(|sizes| sizes.line_words() <= words.len())
+            .unwrap_or_default();
         LineLink {
-            ranks,
-            longest,
+            sizes,
             used: 0,
             words,
         }
     }
 
-    // Where the entry of a pair's box starts; `used` where there is none.
-    fn seek(&self, from: u32, to: u32) -> usize
-        requires { is_pair self.now.ranks from to ≡ true }
-        ensures { result ≡ place (box_number self.now.ranks from to) (queue self.now) }
+    // The number of a pair's box.
+    fn number(&self, pair: Pair) -> Result<u32, Fault>
+        ensures { result ≡ cond (is_pair self.now.sizes.ranks pair.from pair.to) (Ok (box_number self.now.sizes.ranks pair.from pair.to)) (Err (LinkFault Outside pair.to)) }
     {
-        find(self.words, self.used, box_number(self.ranks, from, to))
+        pair.require(pair.is_in(self.sizes.ranks), Ground::Outside)?;
+        Ok(box_number(self.sizes.ranks, pair))
     }
 
-    // Writes words behind the used ones.
-    fn write_behind(&mut self, at: usize, message: &[u32])
-        requires behind { self.old.used ≤ at }
-        requires room { at + length message.now ≤ length self.old.words.now }
-        ensures ranks { self.new.ranks ≡ self.old.ranks }
-        ensures longest { self.new.longest ≡ self.old.longest }
-        ensures used { self.new.used ≡ self.old.used }
-        ensures words { self.new.words.now ≡ paste self.old.words.now at message.now (length message.now) }
+    // Where the entry of a box starts, if it is not empty.
+    fn seek(&self, number: u32) -> Option<usize>
+        ensures is { result ≡ place number (queue self.now) }
+        ensures within { IfSome result (λ at. at + (2 + slice_index self.now.words.now (at + 1)) ≤ self.now.used) }
     {
-        for (i, word) in message.iter().enumerate() {
-            self.words[at + i] = *word;
-        }
-    }
-
-    // Moves words that lie behind the used ones down.
-    fn move_down(&mut self, from: usize, to: usize, count: usize)
-        requires behind { self.old.used ≤ to }
-        requires down { to ≤ from }
-        requires room { from + count ≤ length self.old.words.now }
-        ensures ranks { self.new.ranks ≡ self.old.ranks }
-        ensures longest { self.new.longest ≡ self.old.longest }
-        ensures used { self.new.used ≡ self.old.used }
-        ensures words { self.new.words.now ≡ paste self.old.words.now to (drop from self.old.words.now) count }
-    {
-        for i in 0..count {
-            let word = self.words[from + i];
-            self.words[to + i] = word;
-        }
+        find(&self.words[..self.used], number)
     }
 
     // The call `read`, which changes no word.
-    fn read_words(&self, from: u32, to: u32, area: &mut [u32]) -> Result<usize, Fault>
-        ensures { Read (line_link_model self.now) (line_link_model self.now) from to area.old area.new result }
+    // Stays: on `&self`, since a part that a `&mut self` lends to be read leaves a proof without the words.
+    fn read_words(&self, pair: Pair, area: &mut [u32]) -> Result<usize, Fault>
+        ensures { Read (line_link_model self.now) (line_link_model self.now) pair.from pair.to area.old area.new result }
     {
-        if !is_pair(self.ranks, from, to) {
-            return Err(link_fault(Ground::Outside, to));
-        }
-        if area.len() < self.longest as usize {
-            return Err(link_fault(Ground::TooShort, to));
-        }
-        let at = self.seek(from, to);
-        if at >= self.used {
-            return Err(link_fault(Ground::BoxEmpty, to));
-        }
-        Ok(copy_message(self.words, at + 1, area))
+        let number = self.number(pair)?;
+        pair.require(self.sizes.longest as usize <= area.len(), Ground::TooShort)?;
+        let at = self.seek(number).ok_or(pair.fault(Ground::BoxEmpty))?;
+        Ok(read_message(&self.words[at + 1..], area))
     }
 }
 
 impl<'a> Link for LineLink<'a> {
     ghost model = { line_link_model };
 
+    ghost laws = { lawful };
+
     fn ranks(&self) -> u32 {
-        self.ranks
+        self.sizes.ranks
     }
 
     fn longest(&self) -> u32 {
-        self.longest
+        self.sizes.longest
     }
 
-    fn send(&mut self, from: u32, to: u32, words: &[u32]) -> Result<(), Fault>
-        ensures call { Send (line_link_model self.old) (line_link_model self.new) from to words.now result }
-        ensures order { Queued (line_link_model self.old) from to words.now (queue self.old) (queue self.new) }
+    fn send(&mut self, pair: Pair, words: &[u32]) -> Result<(), Fault>
+        ensures call { Send (line_link_model self.old) (line_link_model self.new) pair.from pair.to words.now result }
+        ensures order { Queued (line_link_model self.old) pair.from pair.to words.now (queue self.old) (queue self.new) }
     {
-        if !is_pair(self.ranks, from, to) {
-            return Err(link_fault(Ground::Outside, to));
-        }
-        if !is_length(self.longest, words.len()) {
-            return Err(link_fault(Ground::WrongLength, to));
-        }
-        if self.seek(from, to) < self.used {
-            return Err(link_fault(Ground::BoxTaken, to));
-        }
-        let used = self.used;
-        let head = [box_number(self.ranks, from, to), words.len() as u32];
-        self.write_behind(used, &head);
-        self.write_behind(used + 2, words);
-        self.used = used + (2 + words.len());
+        let number = self.number(pair)?;
+        pair.require(
+            is_length(self.sizes.longest, words.len()),
+            Ground::WrongLength,
+        )?;
+        pair.require(self.seek(number).is_none(), Ground::BoxTaken)?;
+        write_entry(&mut self.words[self.used..], number, words);
+        self.used += 2 + words.len();
         Ok(())
     }
 
-    fn read(&mut self, from: u32, to: u32, area: &mut [u32]) -> Result<usize, Fault> {
-        self.read_words(from, to, area)
+    fn read(&mut self, pair: Pair, area: &mut [u32]) -> Result<usize, Fault> {
+        self.read_words(pair, area)
     }
 
     // The line ends before the entry while the words behind it move down.
-    fn clear(&mut self, from: u32, to: u32) -> Result<(), Fault>
-        ensures call { Clear (line_link_model self.old) (line_link_model self.new) from to result }
-        ensures order { Dequeued (line_link_model self.old) from to (queue self.old) (queue self.new) }
+    fn clear(&mut self, pair: Pair) -> Result<(), Fault>
+        ensures call { Clear (line_link_model self.old) (line_link_model self.new) pair.from pair.to result }
+        ensures order { Dequeued (line_link_model self.old) pair.from pair.to (queue self.old) (queue self.new) }
     {
-        if !is_pair(self.ranks, from, to) {
-            return Err(link_fault(Ground::Outside, to));
-        }
-        let at = self.seek(from, to);
-        if at >= self.used {
-            return Err(link_fault(Ground::BoxEmpty, to));
-        }
-        let next = at + (2 + self.words[at + 1] as usize);
-        let count = self.used - next;
+        let number = self.number(pair)?;
+        let at = self.seek(number).ok_or(pair.fault(Ground::BoxEmpty))?;
+        let (used, next) = (self.used, at + 2 + self.words[at + 1] as usize);
         self.used = at;
-        self.move_down(next, at, count);
-        self.used = at + count;
+        self.words.copy_within(next..used, at);
+        self.used = at + (used - next);
         Ok(())
     }
 
-    fn waiting(&self, from: u32, to: u32) -> Result<bool, Fault> {
-        if !is_pair(self.ranks, from, to) {
-            return Err(link_fault(Ground::Outside, to));
-        }
-        Ok(self.seek(from, to) < self.used)
+    fn waiting(&self, pair: Pair) -> Result<bool, Fault> {
+        let number = self.number(pair)?;
+        Ok(self.seek(number).is_some())
     }
 }

@@ -2,6 +2,7 @@
 use boxes::cell::CellLink;
 use boxes::line::LineLink;
 use link::Link;
+use link::pair::Pair;
 use link::trim::Trim;
 use request::links::{LinkCall, LinkRequest, link_request};
 use std::alloc::Global;
@@ -12,6 +13,9 @@ use tile::fault::Fault;
 
 // The longest area that a read can need.
 const AREA: u32 = 5200;
+
+// What is told of a line that asks for no call.
+const NO_CALL: &str = "no link request: see 'tilemerge help'";
 
 // How a link that is to be made keeps its boxes.
 #[derive(Clone, Copy)]
@@ -68,9 +72,9 @@ impl<'a, W: Write> Desk<'a, W> {
     }
 
     // Reads a message and tells its words.
-    fn read<L: Link>(&mut self, link: &mut L, from: u32, to: u32) -> anyhow::Result<()> {
+    fn read<L: Link>(&mut self, link: &mut L, pair: Pair) -> anyhow::Result<()> {
         let mut area = vec![in self.heap; 0; self.room.min(AREA) as usize]?;
-        match link.read(from, to, area.as_mut_slice()) {
+        match link.read(pair, area.as_mut_slice()) {
             Ok(count) => self.tell(Ok(Message(area.get(..count).unwrap_or(&[])))),
             Err(fault) => self.tell(Err::<&str, Fault>(fault)),
         }
@@ -84,38 +88,48 @@ impl<'a, W: Write> Desk<'a, W> {
         more: bool,
     ) -> anyhow::Result<Option<Next>> {
         match (asked.call, asked.numbers.as_slice()) {
-            (LinkCall::Send, [from, to, words @ ..]) => {
-                self.tell(link.send(*from, *to, words).map(|()| "ok"))?;
+            (LinkCall::Send, &[from, to, ref words @ ..]) => {
+                let answer = link.send(Pair { from, to }, words);
+                self.tell(answer.map(|()| "ok"))?;
             }
-            (LinkCall::Read, [from, to]) => self.read(link, *from, *to)?,
-            (LinkCall::Clear, [from, to]) => self.tell(link.clear(*from, *to).map(|()| "ok"))?,
-            (LinkCall::Waiting, [from, to]) => {
-                let answer = link.waiting(*from, *to);
+            (LinkCall::Read, &[from, to]) => self.read(link, Pair { from, to })?,
+            (LinkCall::Clear, &[from, to]) => {
+                let answer = link.clear(Pair { from, to });
+                self.tell(answer.map(|()| "ok"))?;
+            }
+            (LinkCall::Waiting, &[from, to]) => {
+                let answer = link.waiting(Pair { from, to });
                 self.tell(answer.map(|waits| if waits { "yes" } else { "no" }))?;
             }
-            (LinkCall::Area, [room]) => {
-                self.room = *room;
+            (LinkCall::Area, &[room]) => {
+                self.room = room;
                 self.tell(Ok("ok"))?;
             }
-            (LinkCall::Trim, []) if more => return Ok(Some(Next::Layer)),
-            (LinkCall::Trim, []) => self.tell(Ok("no more than four layers"))?,
-            (LinkCall::Cell, [ranks, longest]) => {
-                return Ok(Some(Next::Link(Opening {
+            (LinkCall::Trim, []) if !more => self.tell(Ok("no more than four layers"))?,
+            (LinkCall::Trim, []) => return self.make(Next::Layer),
+            (LinkCall::Cell, &[ranks, longest]) => {
+                return self.make(Next::Link(Opening {
                     boxes: Boxes::Cells,
-                    ranks: *ranks,
-                    longest: *longest,
-                })));
+                    ranks,
+                    longest,
+                }));
             }
-            (LinkCall::Line, [ranks, longest]) => {
-                return Ok(Some(Next::Link(Opening {
+            (LinkCall::Line, &[ranks, longest]) => {
+                return self.make(Next::Link(Opening {
                     boxes: Boxes::Line,
-                    ranks: *ranks,
-                    longest: *longest,
-                })));
+                    ranks,
+                    longest,
+                }));
             }
-            _ => self.tell(Ok("no link request: see 'tilemerge help'"))?,
+            _ => self.tell(Ok(NO_CALL))?,
         }
         Ok(None)
+    }
+
+    // Says that a link or a layer is made.
+    fn make(&mut self, next: Next) -> anyhow::Result<Option<Next>> {
+        self.tell(Ok("ok"))?;
+        Ok(Some(next))
     }
 }
 
@@ -131,7 +145,7 @@ impl<'a, R: BufRead + Drop, W: Write> Replay<'a, R, W> {
     fn calls<L: Link>(&mut self, link: &mut L, more: bool) -> anyhow::Result<Option<Next>> {
         for line in self.lines.by_ref() {
             let Some(asked) = link_request(self.desk.heap, line?.as_slice())? else {
-                self.desk.tell(Ok("no link request: see 'tilemerge help'"))?;
+                self.desk.tell(Ok(NO_CALL))?;
                 continue;
             };
             if let Some(next) = self.desk.call(link, &asked, more)? {
@@ -150,7 +164,6 @@ impl<'a, R: BufRead + Drop, W: Write> Replay<'a, R, W> {
         } = opening;
         let (few, short) = (ranks.min(32) as usize, longest.min(AREA) as usize);
         let mut words = vec![in self.desk.heap; 0; few * few * (short + 2)]?;
-        self.desk.tell(Ok("ok"))?;
         let words = words.as_mut_slice();
         match boxes {
             Boxes::Cells => Four::on_pile(self, &mut CellLink::new(ranks, longest, words)),
@@ -198,10 +211,7 @@ impl<M: Layers> Layers for OneMore<M> {
     ) -> anyhow::Result<Option<Opening>> {
         match replay.calls(link, true)? {
             Some(Next::Link(opening)) => Ok(Some(opening)),
-            Some(Next::Layer) => {
-                replay.desk.tell(Ok("ok"))?;
-                M::on_pile(replay, &mut Trim::new(link))
-            }
+            Some(Next::Layer) => M::on_pile(replay, &mut Trim::new(link)),
             None => Ok(None),
         }
     }

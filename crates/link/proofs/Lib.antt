@@ -1,4 +1,3 @@
 pub mod Layers
 pub mod Links
 pub mod Trims
-pub mod WordLaws

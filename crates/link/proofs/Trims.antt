@@ -1,15 +1,16 @@
 -- What the trimmed form keeps of a message, and what the layer keeps of the link below. Assumes nothing.
-use Rattle.std.proofs.Common.{◌≡◌, ℕ, zero, suc, ◌+◌, ◌-◌, ◌<◌, ◌≤◌, Bool, true, false, cond, not, ltb, ◌⊎◌, List, [], ◌∷◌, ◌++◌, length, get_or, take, drop, set, replicate, Some, sym, refl, ap, ◌∙◌, inr, ⊎_elim, arith, length-set, rules}
-use borrow.Rule.Slice.PartMut.{put_mid, post_of}
+use Rattle.std.proofs.Common.{◌≡◌, ℕ, eqb, reverse, ◌+◌, ◌-◌, ◌<◌, ◌≤◌, max, Bool, true, false, cond, ltb, ◌⊎◌, List, [], ◌∷◌, ◌++◌, length, get_or, take, drop, set, replicate, sym, refl, ap, ◌∙◌, ⊎_elim, arith, length-set, rules}
+use borrow.Rule.Slice.PartMut.{put_mid}
 use Rattle.std.proofs.lemmas.Slice.{take-put_mid}
-use Rattle.std.proofs.lemmas.List.{length-append, length-replicate, length-take-le, length-drop, get_or-take, get_or-drop, get_or_past, ext_get_or, take_at, drop_at, drop-drop, append_assoc, take_rest, places}
+use Rattle.std.proofs.lemmas.List.Sums.{prefix_len-le-length, prefix_len_passes, prefix_len_stops}
+use Rattle.std.specs.List.{suffix_len}
+use Rattle.std.proofs.lemmas.List.{get_or-reverse, length-reverse, length-append, length-replicate, length-take-le, length-drop, get_or-take, get_or-drop, get_or_past, ext_get_or, take_at, drop_at, drop-drop, append_assoc, places}
 use Rattle.std.proofs.lemmas.Bool.{cases_lt}
 use Rattle.std.proofs.lemmas.Bool.Decides.{nat_tests}
-use Rattle.link.specs.Model.{LinkModel, BoxState, Empty, Holds, Spoilt, is_empty, is_spoilt, Allowed, LinkLaws, changed, put}
-use Rattle.link.specs.Trim.{leading, ending, middle, trimmed, has_form, spread, untrimmed, trim_box, trim_model, ReadInto}
+use Rattle.link.specs.Model.{LinkModel, BoxState, Empty, Holds, Spoilt, is_empty, changed, put}
+use Rattle.link.specs.Trim.{leading, ending, middle, trimmed, has_form, spread, untrimmed, trim_box, trim_model}
 use Rattle.link.proofs.Links.{same_link}
-use Rattle.link.proofs.WordLaws.{append_words, zero_words}
-use Rattle.tile.specs.Words.{AreWords}
+use Rattle.link.specs.TrimLaws.{length-spread}
 
 -- a box is empty above where it is empty below
 pub trim_empty : (l : ℕ) (b : BoxState) → is_empty (trim_box l b) ≡ is_empty b
@@ -26,75 +27,50 @@ trim_put m from to b = same_link _ _ refl refl (λ i j. at i j)
     at : (i j : ℕ) → trim_box (m.longest - 2) (changed m.boxes from to b i j) ≡ changed (λ i j. trim_box (m.longest - 2) (m.boxes i j)) from to (trim_box (m.longest - 2) b) i j
     at i j = grind arith
 
--- the message of a form has as many words as the form says
-pub length-spread : (count lead : ℕ) (mid : List ℕ) → lead + length mid ≤ count → length (spread count lead mid) ≡ count
-length-spread count lead mid h = simp (length-append, length-replicate) (omega arith)
-
--- the words of a form's message are words
-spread_words : (count lead : ℕ) (mid : List ℕ) → AreWords mid → AreWords (spread count lead mid)
-spread_words count lead mid h =
-    append_words (replicate lead 0) _ (zero_words lead) (append_words mid _ h (zero_words (count - (lead + length mid))))
-
-trim_allowed : (l below : ℕ) (b : BoxState) → Allowed below b → Allowed l (trim_box l b)
-trim_allowed l below Empty h = tt
-trim_allowed l below Spoilt h = tt
-trim_allowed l below (Holds []) h = tt
-trim_allowed l below (Holds (x ∷ [])) h = tt
-trim_allowed l below (Holds (count ∷ lead ∷ mid)) h = at (has_form l count lead mid) refl
-  where
-    at : (t : Bool) → has_form l count lead mid ≡ t → Allowed l (cond t (Holds (spread count lead mid)) Spoilt)
-    at false e = tt
-    at true e =
-        let fits : lead + length mid ≤ count = grind (arith, nat_tests) in
-        let n = length-spread count lead mid fits in
-        (grind (arith, nat_tests), grind (arith, nat_tests), spread_words count lead mid (λ k. h.2 (suc (suc k))))
-
-pub trim_lawful : (m : LinkModel) → LinkLaws m → LinkLaws (trim_model m)
-trim_lawful m h = record {
-  few = h.few;
-  short = omega (arith, h.short);
-  allowed = λ i j. trim_allowed (m.longest - 2) m.longest (m.boxes i j) (h.allowed i j);
-}
-
 -- The words before `leading` are zero, the word at it is not.
 pub leading_le : (ws : List ℕ) → leading ws ≤ length ws
-leading_le [] = omega arith
-leading_le (x ∷ xs) = let h = leading_le xs in grind (arith, nat_tests)
+leading_le ws = prefix_len-le-length (λ w. eqb w 0) ws
 
 pub leading-zero : (ws : List ℕ) (k : ℕ) → k < leading ws → get_or ws k 0 ≡ 0
-leading-zero [] k h = refl
-leading-zero (x ∷ xs) zero h = grind (arith, nat_tests)
-leading-zero (x ∷ xs) (suc k) h = let p = leading-zero xs k in grind (arith, nat_tests)
+leading-zero ws k h = let p = prefix_len_passes (λ w. eqb w 0) ws k 0 h in grind (arith, nat_tests)
 
 pub leading-not : (ws : List ℕ) → leading ws < length ws → get_or ws (leading ws) 0 ≡ 0 → ⊥
-leading-not [] h e = omega arith
-leading-not (x ∷ xs) h e = let p = leading-not xs in grind (arith, nat_tests)
+leading-not ws h e = let p = prefix_len_stops (λ w. eqb w 0) ws 0 h in grind (arith, nat_tests)
 
 -- The words from `ending` on are zero, the word before it is not.
 pub ending_le : (ws : List ℕ) → ending ws ≤ length ws
-ending_le [] = omega arith
-ending_le (x ∷ xs) = let h = ending_le xs in grind (arith, nat_tests)
+ending_le ws = omega arith
+
+-- a word by its place from the end
+from_end : (ws : List ℕ) (k : ℕ) → k < length ws → get_or (reverse ws) (length ws - 1 - k) 0 ≡ get_or ws k 0
+from_end ws k h = get_or-reverse ws (length ws - 1 - k) 0 (omega arith) ∙ ap (λ n. get_or ws n 0) (omega arith)
 
 pub ending-zero : (ws : List ℕ) (k : ℕ) → ending ws ≤ k → get_or ws k 0 ≡ 0
-ending-zero [] k h = refl
-ending-zero (x ∷ xs) zero h = grind (arith, nat_tests)
-ending-zero (x ∷ xs) (suc k) h = let p = ending-zero xs k in grind (arith, nat_tests)
-
-getD_cons : (x : ℕ) (xs : List ℕ) (k : ℕ) → 0 < k → get_or (x ∷ xs) k 0 ≡ get_or xs (k - 1) 0
-getD_cons x xs zero h = omega arith
-getD_cons x xs (suc k) h = ap (λ n. get_or xs n 0) (omega arith)
+ending-zero ws k h = ⊎_elim
+    (λ (u : k < length ws).
+    let p = prefix_len_passes (λ w. eqb w 0) (reverse ws) (length ws - 1 - k) 0 (omega arith) in
+    let e = from_end ws k u in
+    grind (arith, nat_tests))
+    (λ (u : length ws ≤ k). get_or_past ws k 0 u)
+    (cases_lt k (length ws))
 
 pub ending-not : (ws : List ℕ) → 0 < ending ws → get_or ws (ending ws - 1) 0 ≡ 0 → ⊥
-ending-not [] h e = omega arith
-ending-not (x ∷ xs) h e =
-    let p = ending-not xs in
-    let q = getD_cons x xs (ending xs) in
+ending-not ws h e =
+    let n : length (reverse ws) ≡ length ws = length-reverse ws in
+    let p = prefix_len_stops (λ w. eqb w 0) (reverse ws) 0 (omega arith) in
+    let r = from_end ws (ending ws - 1) (omega arith) in
+    let i : length ws - 1 - (ending ws - 1) ≡ suffix_len (λ w. eqb w 0) ws = omega arith in
     grind (arith, nat_tests)
 
 -- all words are zero, or the first that is not stands before the end
 pub leading-ending : (ws : List ℕ) → (leading ws < ending ws) ⊎ ((leading ws ≡ length ws) × (ending ws ≡ 0))
-leading-ending [] = inr (refl, refl)
-leading-ending (x ∷ xs) = let h = leading-ending xs in grind (arith, nat_tests)
+leading-ending ws =
+    let a = leading_le ws in
+    let z = leading-zero ws (ending ws - 1) in
+    let p = leading-not ws in
+    let q = ending-not ws in
+    let y = ending-zero ws (leading ws) in
+    grind arith
 
 pub length-middle : (ws : List ℕ) → length (middle ws) ≡ ending ws - leading ws
 length-middle ws = let h = ending_le ws in rw (length-drop, length-take-le)
@@ -226,26 +202,20 @@ first_two (a ∷ []) x y h = absurd (omega arith)
 first_two (a ∷ b ∷ out) x y h = refl
 
 -- the middle as a part of the message in memory
-pub middle-part : (ws : List ℕ) (lead n : ℕ) → lead ≡ leading ws → n ≡ ending ws - lead → take (lead + n - lead) (drop lead ws) ≡ middle ws
-middle-part ws lead n p q =
+middle-part : (ws : List ℕ) → take (max (ending ws) (leading ws) - leading ws) (drop (leading ws) ws) ≡ middle ws
+middle-part ws =
     let e = ending_le ws in
     let a = leading_le ws in
-    let w = leading-ending ws in
-    ext_get_or 0 _ _ (search (rules, places, length-middle)) (λ k h. grind (arith, places))
+    let n = length-middle ws in
+    ext_get_or 0 _ _ (search (rules, places)) (λ k h. grind (arith, places))
 
 -- what `out` holds after its first two words and then the middle were written
-pub written : (ws out ys : List ℕ) (lead n : ℕ) → lead ≡ leading ws → n ≡ ending ws - lead → length ws + 2 ≤ length out → ys ≡ take (lead + n - lead) (drop lead ws) → take (2 + n) (put_mid 2 (2 + n - 2) (set (set out 0 (length ws)) 1 lead) ys) ≡ trimmed ws
-written ws out ys lead n p q room is =
-    let mid : ys ≡ middle ws = is ∙ middle-part ws lead n p q in
-    let len : 2 + n ≡ 2 + length ys = omega (arith, ap length mid, length-middle ws) in
-    let outer : 2 ≤ length (set (set out 0 (length ws)) 1 lead) = simp length-set (omega arith) in
-    take-put_mid 2 _ _ ys (2 + n) len outer ∙ ap (λ t. t ++ ys) (first_two out (length ws) lead (omega arith)) ∙ cc
-
--- the test of a form in memory
-pub form_test : (l : ℕ) (form : List ℕ) → 2 ≤ length form → not (is_spoilt (untrimmed l form)) ≡ has_form l (get_or form 0 0) (get_or form 1 0) (drop 2 form)
-form_test l [] h = absurd (omega arith)
-form_test l (x ∷ []) h = absurd (omega arith)
-form_test l (x ∷ y ∷ mid) h = grind arith
+pub written : (ws out mid ys : List ℕ) (zeros end : ℕ) → zeros ≡ leading ws → end ≡ max (ending ws) zeros → mid ≡ take (end - zeros) (drop zeros ws) → ys ≡ mid → length ws + 2 ≤ length out → take (2 + length mid) (put_mid 2 (2 + length mid - 2) (set (set out 0 (length ws)) 1 zeros) ys) ≡ trimmed ws
+written ws out mid ys zeros end z e m y room =
+    let is : mid ≡ middle ws = rw (m, e, z) (middle-part ws) in
+    let outer : 2 ≤ length (set (set out 0 (length ws)) 1 zeros) = simp length-set (omega arith) in
+    let len : 2 + length mid ≡ 2 + length ys = omega (arith, ap length y) in
+    take-put_mid 2 _ _ ys (2 + length mid) len outer ∙ ap (λ t. t ++ ys) (first_two out (length ws) zeros (omega arith)) ∙ cc
 
 -- a part written right after a front of its own
 put-after : (x y rest : List ℕ) (a k : ℕ) → length x ≡ a → put_mid a k (x ++ rest) y ≡ (x ++ y) ++ drop k rest
@@ -255,27 +225,16 @@ put-after x y rest a k p =
     rw (t, d) (sym (append_assoc x y (drop k rest)))
 
 -- what `area` holds after the three parts of the message were written
-pub spread_written : (area mid y z₁ z₂ : List ℕ) (count lead : ℕ) → lead + length mid ≤ count → z₁ ≡ replicate lead 0 → y ≡ mid → z₂ ≡ replicate (count - (lead + length mid)) 0 → put_mid (lead + length mid) (count - (lead + length mid)) (put_mid lead (lead + length mid - lead) (z₁ ++ post_of 0 (lead - 0) area) y) z₂ ≡ spread count lead mid ++ drop count area
+pub spread_written : (area mid y z₁ z₂ : List ℕ) (count lead : ℕ) → lead + length mid ≤ count → z₁ ≡ replicate lead 0 → y ≡ mid → z₂ ≡ replicate (count - (lead + length mid)) 0 → put_mid (lead + length mid) (count - (lead + length mid)) (put_mid lead (lead + length mid - lead) (z₁ ++ drop lead area) y) z₂ ≡ spread count lead mid ++ drop count area
 spread_written area mid y z₁ z₂ count lead fits p q r =
     let n = length mid in
     let zeros : List ℕ = replicate lead 0 in
-    let rest : List ℕ = drop (lead - 0) area in
+    let rest : List ℕ = drop lead area in
     let tail : List ℕ = replicate (count - (lead + n)) 0 in
     let len : length zeros ≡ lead = length-replicate lead 0 in
     let both : length (zeros ++ mid) ≡ lead + n = simp length-append (omega arith) in
     let inner : put_mid lead (lead + n - lead) (zeros ++ rest) mid ≡ (zeros ++ mid) ++ drop (lead + n - lead) rest = put-after zeros mid rest lead (lead + n - lead) len in
     let outer = put-after (zeros ++ mid) tail (drop (lead + n - lead) rest) (lead + n) (count - (lead + n)) both in
-    let all : (lead - 0) + ((lead + n - lead) + (count - (lead + n))) ≡ count = omega arith in
+    let all : lead + ((lead + n - lead) + (count - (lead + n))) ≡ count = omega arith in
     let left : drop (count - (lead + n)) (drop (lead + n - lead) rest) ≡ drop count area = drop-drop _ _ rest ∙ drop-drop _ _ area ∙ ap (λ k. drop k area) all in
     rw (p, q, r) (ap (λ t. put_mid (lead + n) (count - (lead + n)) t tail) inner ∙ outer ∙ ap (λ t. ((zeros ++ mid) ++ tail) ++ t) left ∙ ap (λ t. t ++ drop count area) (append_assoc zeros mid tail))
-
--- reading a form that has passed the test
-pub read-form : (l : ℕ) (form area area' : List ℕ) → true ≡ not (is_spoilt (untrimmed l form)) → area' ≡ spread (get_or form 0 0) (get_or form 1 0) (take (length form - 2) (drop 2 form)) ++ drop (get_or form 0 0) area → ReadInto (untrimmed l form) area area' (Some (get_or form 0 0))
-read-form l [] area area' t e = let z : ◌≡◌ {A = ℕ} 0 1 = cc in absurd (omega arith)
-read-form l (x ∷ []) area area' t e = let z : ◌≡◌ {A = ℕ} 0 1 = cc in absurd (omega arith)
-read-form l (count ∷ lead ∷ mid) area area' t e =
-    let form : has_form l count lead mid ≡ true = grind arith in
-    let fits : lead + length mid ≤ count = grind (arith, nat_tests) in
-    let len : length (spread count lead mid) ≡ count = length-spread count lead mid fits in
-    let rest : area' ≡ spread count lead mid ++ drop count area = e ∙ ap (λ m. spread count lead m ++ drop count area) (take_rest (count ∷ lead ∷ mid) 2) in
-    rw form (ap Some (sym len), rest ∙ ap (λ n. spread count lead mid ++ drop n area) (sym len))

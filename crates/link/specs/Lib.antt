@@ -3,3 +3,5 @@ pub mod Echo
 pub mod Examples
 pub mod Model
 pub mod Trim
+pub mod TrimLaws
+pub mod WordLaws

@@ -1,18 +1,21 @@
 -- The trimmed form of a message: its word count, the count of leading zero words, and the words from the first to the
 -- last that is not zero. Assumes nothing.
-use Rattle.std.specs.Prelude.{◌≡◌, ℕ, suc, ◌+◌, ◌-◌, ◌≤◌, Bool, cond, not, ◌&&◌, List, [], ◌∷◌, ◌++◌, length, take, drop, replicate, Some, None, Option, ◌==◌, nat_le, slice_index}
+use Rattle.std.specs.List.{prefix_len, suffix_len}
+use Rattle.std.specs.Prelude.{◌≡◌, ℕ, ◌+◌, ◌-◌, ◌≤◌, Bool, cond, not, ◌&&◌, List, [], ◌∷◌, ◌++◌, length, take, drop, replicate, Some, None, Option, ◌==◌, nat_le, slice_index}
 use Rattle.link.specs.Calls.{is_length, filled_with}
 use Rattle.link.specs.Model.{LinkModel, BoxState, Empty, Holds, Spoilt}
 
 -- how many words stand before the first that is not zero
 abbrev pub leading : List ℕ → ℕ
-leading [] = 0
-leading (x ∷ xs) = cond (x == 0) (suc (leading xs)) 0
+leading ws = prefix_len (λ w. w == 0) ws
+
+-- how many words stand behind the last that is not zero
+abbrev pub trailing : List ℕ → ℕ
+trailing ws = suffix_len (λ w. w == 0) ws
 
 -- how many words there are up to the last that is not zero, that one included
 abbrev pub ending : List ℕ → ℕ
-ending [] = 0
-ending (x ∷ xs) = cond (ending xs == 0) (cond (x == 0) 0 1) (suc (ending xs))
+ending ws = length ws - trailing ws
 
 -- the words from the first to the last that is not zero
 abbrev pub middle : List ℕ → List ℕ

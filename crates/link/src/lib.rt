@@ -5,12 +5,13 @@ ghost use Rattle.std.specs.Prelude.{◌≡◌};
 ghost use Rattle.link.specs.Calls.{Send, Read, Clear, Waiting};
 ghost use Rattle.link.specs.Model.{LinkModel, LinkLaws};
 
-pub mod calls;
 pub mod echo;
 pub mod examples;
+pub mod pair;
 pub mod trim;
 mod zeros;
 
+use crate::pair::Pair;
 use tile::fault::Fault;
 
 // A number of ranks with a box for each ordered pair of them.
@@ -23,22 +24,24 @@ pub trait Link {
 
     // How many words its longest message has.
     fn longest(&self) -> u32
-        ensures is { result ≡ (model self.now).longest }
-        ensures lawful { LinkLaws (model self.now) };
+        ensures { result ≡ (model self.now).longest };
 
     // Puts a message into an empty box.
-    fn send(&mut self, from: u32, to: u32, words: &[u32]) -> Result<(), Fault>
-        ensures { Send (model self.old) (model self.new) from to words.now result };
+    fn send(&mut self, pair: Pair, words: &[u32]) -> Result<(), Fault>
+        ensures { Send (model self.old) (model self.new) pair.from pair.to words.now result };
 
     // Copies the message of a box first into `area` and answers its length.
-    fn read(&mut self, from: u32, to: u32, area: &mut [u32]) -> Result<usize, Fault>
-        ensures { Read (model self.old) (model self.new) from to area.old area.new result };
+    fn read(&mut self, pair: Pair, area: &mut [u32]) -> Result<usize, Fault>
+        ensures { Read (model self.old) (model self.new) pair.from pair.to area.old area.new result };
 
     // Empties a box.
-    fn clear(&mut self, from: u32, to: u32) -> Result<(), Fault>
-        ensures { Clear (model self.old) (model self.new) from to result };
+    fn clear(&mut self, pair: Pair) -> Result<(), Fault>
+        ensures { Clear (model self.old) (model self.new) pair.from pair.to result };
 
     // Whether a box is not empty.
-    fn waiting(&self, from: u32, to: u32) -> Result<bool, Fault>
-        ensures { Waiting (model self.now) from to result };
+    fn waiting(&self, pair: Pair) -> Result<bool, Fault>
+        ensures { Waiting (model self.now) pair.from pair.to result };
+
+    // What every link keeps.
+    ghost laws: { (link : Self) → LinkLaws (model link) };
 }

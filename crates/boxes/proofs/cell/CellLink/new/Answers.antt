@@ -1,12 +1,13 @@
-use Rattle.std.proofs.Common.{sym, ap, ◌∙◌}
-use Rattle.boxes.proofs.Cells.{cells_vacant, no_cells}
-use Rattle.boxes.specs.Cells.{cell_model}
+use Rattle.std.proofs.Common.{◌≡◌, cond, length, drop, rules}
+use Rattle.boxes.proofs.Cells.{cells_started}
+use Rattle.boxes.specs.Cells.{cell_words}
+use Rattle.boxes.specs.Sizes.{suffices}
 use Rattle.boxes.proofs.cell.CellLink.new.Goals as goal
-
-pub returns-then-not-cells_fit : goal.returns-then-not-cells_fit
-returns-then-not-cells_fit c = let t = sym c.if-not-cells_fit.ensures in rw t (no_cells c.args.words.now)
 
 pub returns : goal.returns
 returns c =
-    let t = sym c.if-not-cells_fit.ensures in
-    rw t (ap (cell_model c.args.ranks c.args.longest) (c.fill.ensures.after (λ y e. e)) ∙ cells_vacant c.args.ranks c.args.longest _)
+    let sizes = c.unwrap_or_default-sizes.result in
+    let fits = suffices c.args.ranks c.args.longest (cell_words c.args.ranks c.args.longest) (length c.args.words.now) in
+    let ranks : sizes.ranks ≡ cond fits c.args.ranks 0 = search rules in
+    let longest : sizes.longest ≡ cond fits c.args.longest 0 = search rules in
+    cells_started c.args.ranks c.args.longest (length c.args.words.now) sizes.ranks sizes.longest c.fill.new.self (drop c.cell_words.result c.args.words.now) ranks longest (search rules)

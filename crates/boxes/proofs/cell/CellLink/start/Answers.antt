@@ -1,6 +1,6 @@
-use Rattle.std.proofs.Common.{refl}
-use Rattle.boxes.proofs.Cells.{place-within}
+use Rattle.std.proofs.Common.{rules}
+use Rattle.boxes.specs.CellLaws.{place-within}
 use Rattle.boxes.proofs.cell.CellLink.start.Goals as goal
 
-pub returns : goal.returns
-returns c = let s = c.args.self.now in record { is = refl; within = place-within s.ranks s.longest c.args.from c.args.to c.requires }
+pub returns-clause-within : goal.returns-clause-within
+returns-clause-within c = place-within c.args.self.now.sizes.ranks c.args.self.now.sizes.longest c.args.pair.from c.args.pair.to (search rules)

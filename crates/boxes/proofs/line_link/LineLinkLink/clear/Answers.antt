@@ -1,95 +1,39 @@
-use Rattle.std.proofs.Common.{◌+◌, ◌-◌, length, get_or, drop, sym, ap, arith}
-use Rattle.std.proofs.lemmas.List.{length-drop}
-use Rattle.std.proofs.lemmas.List.Edits.{length-paste}
-use Rattle.boxes.proofs.LineCalls.{clear_none, clear_none_order, clear_order, next-within, short_spelt, short_good, short_words, clear_spelt, clear_good, clear_words, clear_done, good_moved, clear_moved}
-use Rattle.boxes.proofs.Places.{closed}
+use Rattle.std.proofs.Common.{◌+◌, get_or, arith, rules}
+use Rattle.boxes.proofs.LineCalls.{vacancy, short_kept, clear_kept, clear_done, clear_order}
 use Rattle.boxes.proofs.line_link.LineLinkLink.clear.Goals as goal
 
-pub returns-then-at-self : goal.returns-then-at-self
-returns-then-at-self c =
-    let s = c.args.self.now in
-    let pair = sym c.if-not-is_pair.ensures in
-    let at = c.seek-at.result in
-    record {
-      call = rw c.link_fault-then-at-self.ensures (clear_none s c.args.from c.args.to at pair c.seek-at.ensures c.if-at-self.true);
-      order = clear_none_order s c.args.from c.args.to at pair c.seek-at.ensures c.if-at-self.true;
-    }
+pub returns-in_err-at-clause-call : goal.returns-in_err-at-clause-call
+returns-in_err-at-clause-call c =
+    let empty = vacancy c.args.self.now c.args.pair.from c.args.pair.to (search rules) c.seek.result (search rules) in
+    search rules
 
-pub bounds-self-at : goal.bounds-self-at
-bounds-self-at c =
-    let s = c.args.self.now in
-    let pair = sym c.if-not-is_pair.ensures in
-    let at = c.seek-at.result in
-    omega (arith, s.within, next-within s c.args.from c.args.to at pair c.seek-at.ensures c.if-at-self.false)
-
-pub overflow_sub-count : goal.overflow_sub-count
-overflow_sub-count c =
-    let s = c.args.self.now in
-    let pair = sym c.if-not-is_pair.ensures in
-    let at = c.seek-at.result in
-    next-within s c.args.from c.args.to at pair c.seek-at.ensures c.if-at-self.false
+pub returns-in_err-at-clause-order : goal.returns-in_err-at-clause-order
+returns-in_err-at-clause-order c =
+    let empty = vacancy c.args.self.now c.args.pair.from c.args.pair.to (search rules) c.seek.result (search rules) in
+    search rules
 
 pub invariant_of-self : goal.invariant_of-self
 invariant_of-self c =
     let s = c.args.self.now in
-    let pair = sym c.if-not-is_pair.ensures in
-    let at = c.seek-at.result in
-    let items = s.words.now in
-    let next = next-within s c.args.from c.args.to at pair c.seek-at.ensures c.if-at-self.false in
-    record {
-      few = s.few;
-      short = s.short;
-      room = s.room;
-      within = omega (arith, s.within, next);
-      spelt = short_spelt s c.args.from c.args.to at pair c.seek-at.ensures c.if-at-self.false;
-      good = short_good s c.args.from c.args.to at pair c.seek-at.ensures c.if-at-self.false;
-      fits = short_words s c.args.from c.args.to at pair c.seek-at.ensures c.if-at-self.false;
-    }
-
-pub move_down-requires : goal.move_down-requires
-move_down-requires c =
-    let s = c.args.self.now in
-    let pair = sym c.if-not-is_pair.ensures in
-    let at = c.seek-at.result in
-    let items = s.words.now in
-    let next = next-within s c.args.from c.args.to at pair c.seek-at.ensures c.if-at-self.false in
-    record { behind = omega arith; down = omega arith; room = omega (arith, s.within, next) }
+    let kept = short_kept s c.args.pair.from c.args.pair.to (search rules) c.in_ok-at.at (search rules) in
+    record { few = s.few; short = s.short; room = s.room; within = search rules; spelt = kept.spelt; good = kept.good; fits = kept.fits }
 
 pub invariant_of-self-2 : goal.invariant_of-self-2
 invariant_of-self-2 c =
     let s = c.args.self.now in
-    let pair = sym c.if-not-is_pair.ensures in
-    let at = c.seek-at.result in
-    let items = s.words.now in
-    let next = next-within s c.args.from c.args.to at pair c.seek-at.ensures c.if-at-self.false in
-    let last = c.move_down.new.self in
-    let cut = closed items last.words.now s.used at _ (omega arith) next s.within c.move_down.ensures.words in
-    let e = c.move_down.ensures in
-    let start = at + (2 + get_or items (at + 1) 0) in
-    let rest = length-drop start items in
-    let len = length-paste items at (drop start items) (s.used - start) (omega (arith, s.within, next)) (omega (arith, s.within, next)) in
-    let shut = clear_good s c.args.from c.args.to at pair c.seek-at.ensures _ c.if-at-self.false cut in
-    record {
-      few = last.few;
-      short = last.short;
-      room = last.room;
-      within = omega (arith, s.within, next, len, ap length e.words);
-      spelt = clear_spelt s c.args.from c.args.to at pair c.seek-at.ensures _ c.if-at-self.false cut;
-      good = good_moved s.ranks s.longest last.ranks last.longest _ e.ranks e.longest shut;
-      fits = clear_words s c.args.from c.args.to at pair c.seek-at.ensures _ c.if-at-self.false cut;
-    }
+    let at = c.in_ok-at.at in
+    let next = at + 2 + get_or s.words.now (at + 1) 0 in
+    let kept = clear_kept s c.args.pair.from c.args.pair.to (search rules) at (search rules) next _ (omega arith) c.copy_within.ensures.after in
+    record { few = search rules; short = search rules; room = search rules; within = search rules; spelt = kept.spelt; good = kept.good; fits = kept.fits }
 
-pub returns : goal.returns
-returns c =
-    let s = c.args.self.now in
-    let pair = sym c.if-not-is_pair.ensures in
-    let at = c.seek-at.result in
-    let items = s.words.now in
-    let next = next-within s c.args.from c.args.to at pair c.seek-at.ensures c.if-at-self.false in
-    let last = c.move_down.new.self in
-    let cut = closed items last.words.now s.used at _ (omega arith) next s.within c.move_down.ensures.words in
-    let e = c.move_down.ensures in
-    record {
-      call = clear_moved s.ranks s.longest last.ranks last.longest _ e.ranks e.longest (clear_done s c.args.from c.args.to at pair c.seek-at.ensures _ c.if-at-self.false cut);
-      order = clear_order s c.args.from c.args.to at pair c.seek-at.ensures _ c.if-at-self.false cut;
-    }
+pub returns-clause-call : goal.returns-clause-call
+returns-clause-call c =
+    let at = c.in_ok-at.at in
+    let next = at + 2 + get_or c.args.self.now.words.now (at + 1) 0 in
+    clear_done c.args.self.now c.args.pair.from c.args.pair.to (search rules) at (search rules) next _ (omega arith) c.copy_within.ensures.after
+
+pub returns-clause-order : goal.returns-clause-order
+returns-clause-order c =
+    let at = c.in_ok-at.at in
+    let next = at + 2 + get_or c.args.self.now.words.now (at + 1) 0 in
+    clear_order c.args.self.now c.args.pair.from c.args.pair.to (search rules) at (search rules) next _ (omega arith) c.copy_within.ensures.after

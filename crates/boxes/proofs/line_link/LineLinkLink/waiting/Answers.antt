@@ -1,6 +1,8 @@
-use Rattle.std.proofs.Common.{sym}
-use Rattle.boxes.proofs.LineCalls.{waits}
+use Rattle.std.proofs.Common.{rules}
+use Rattle.boxes.proofs.LineCalls.{vacancy}
 use Rattle.boxes.proofs.line_link.LineLinkLink.waiting.Goals as goal
 
 pub returns : goal.returns
-returns c = waits c.args.self.now c.args.from c.args.to c.seek.result (sym c.if-not-is_pair.ensures) c.seek.ensures
+returns c =
+    let empty = vacancy c.args.self.now c.args.pair.from c.args.pair.to (search rules) c.seek.result (search rules) in
+    search rules
