@@ -14,6 +14,7 @@ pub(crate) struct Listing<'a> {
 
 impl Listing<'_> {
     // Puts the transfer behind the earlier ones, if the area has room.
+    // Stays: this and its callers each ask that another number of transfers can still be counted, which no one fact of the type says.
     pub(crate) fn put(&mut self, transfer: Transfer)
         requires { self.old.count < 32768 }
         ensures { Adds (transfer ∷ []) self.old self.new }
