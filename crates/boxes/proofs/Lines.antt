@@ -58,8 +58,8 @@ good_add m l (x ∷ es) e g s h =
 -- One entry less.
 empty_is : (s : BoxState) → is_empty s ≡ true → s ≡ Empty
 empty_is Empty h = refl
-empty_is (Holds ws) h = let z : ◌≡◌ {A = ℕ} 0 1 = cc in absurd (omega arith)
-empty_is Spoilt h = let z : ◌≡◌ {A = ℕ} 0 1 = cc in absurd (omega arith)
+empty_is (Holds ws) h = absurd cc
+empty_is Spoilt h = absurd cc
 
 pub lookup_empty : (b : ℕ) (es : List Entry) → is_empty (lookup b es) ≡ true → lookup b es ≡ Empty
 lookup_empty b es h = empty_is (lookup b es) h
@@ -255,12 +255,12 @@ module _ (ws : List ℕ) (b : ℕ) where
   pub missing : None ≡ place b (entries ws) → lookup b (entries ws) ≡ Empty
   missing is = elim (split b (entries ws)) [
     | inl p ↦ p.0
-    | inr s ↦ let e = s.start in let z : ◌≡◌ {A = ℕ} 0 1 = cc in absurd (omega arith)
+    | inr s ↦ let e = s.start in absurd cc
   ]
 
   pub found : (at : ℕ) → Spelt ws → Some at ≡ place b (entries ws) → Found b ws at
   found at h is = elim (split b (entries ws)) [
-    | inl p ↦ let e = p.1 in let z : ◌≡◌ {A = ℕ} 0 1 = cc in absurd (omega arith)
+    | inl p ↦ let e = p.1 in absurd cc
     | inr s ↦
         let e = s.entry in
         let x = spelled s.before in

@@ -79,6 +79,7 @@ impl<'a> Link for CellLink<'a> {
         self.read_words(pair, area)
     }
 
+    #[tactic(auto, using(crate::proofs::CellCalls::pair_box))]
     fn clear(&mut self, pair: Pair) -> Result<(), Fault> {
         let at = self.start(pair)?;
         pair.require(self.words[at] != 0, Ground::BoxEmpty)?;

@@ -73,6 +73,7 @@ impl<'a> Link for LineLink<'a> {
         self.sizes.longest
     }
 
+    #[tactic(auto, using(crate::proofs::LineCalls::vacancy))]
     fn send(&mut self, pair: Pair, words: &[u32]) -> Result<(), Fault>
         ensures call { Send (line_link_model self.old) (line_link_model self.new) pair.from pair.to words.now result }
         ensures order { Queued (line_link_model self.old) pair.from pair.to words.now (queue self.old) (queue self.new) }
@@ -93,19 +94,22 @@ impl<'a> Link for LineLink<'a> {
     }
 
     // The line ends before the entry while the words behind it move down.
+    #[tactic(auto, using(crate::proofs::LineCalls::vacancy))]
     fn clear(&mut self, pair: Pair) -> Result<(), Fault>
         ensures call { Clear (line_link_model self.old) (line_link_model self.new) pair.from pair.to result }
         ensures order { Dequeued (line_link_model self.old) pair.from pair.to (queue self.old) (queue self.new) }
     {
         let number = self.number(pair)?;
         let at = self.seek(number).ok_or(pair.fault(Ground::BoxEmpty))?;
-        let (used, next) = (self.used, at + 2 + self.words[at + 1] as usize);
+        let used = self.used;
+        let next = at + 2 + self.words[at + 1] as usize;
         self.used = at;
         self.words.copy_within(next..used, at);
         self.used = at + (used - next);
         Ok(())
     }
 
+    #[tactic(auto, using(crate::proofs::LineCalls::vacancy))]
     fn waiting(&self, pair: Pair) -> Result<bool, Fault> {
         let number = self.number(pair)?;
         Ok(self.seek(number).is_some())

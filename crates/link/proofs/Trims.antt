@@ -188,12 +188,12 @@ module _ (l count zeros : ℕ) (inner : List ℕ) (form : has_form l count zeros
   parts-back = let n = whole_length in let z = zeros_lead in let m = inner_middle in cc
 
 pub only-form : (l : ℕ) (form ws : List ℕ) → untrimmed l form ≡ Holds ws → form ≡ trimmed ws
-only-form l [] ws h = let z : ◌≡◌ {A = ℕ} 0 1 = cc in absurd (omega arith)
-only-form l (x ∷ []) ws h = let z : ◌≡◌ {A = ℕ} 0 1 = cc in absurd (omega arith)
+only-form l [] ws h = absurd cc
+only-form l (x ∷ []) ws h = absurd cc
 only-form l (count ∷ zeros ∷ inner) ws h = at (has_form l count zeros inner) refl h
   where
     at : (t : Bool) → has_form l count zeros inner ≡ t → cond t (Holds (spread count zeros inner)) Spoilt ≡ Holds ws → count ∷ zeros ∷ inner ≡ trimmed ws
-    at false e q = let z : ◌≡◌ {A = ℕ} 0 1 = cc in absurd (omega arith)
+    at false e q = absurd cc
     at true e q = let same : spread count zeros inner ≡ ws = cc in parts-back l count zeros inner e ∙ ap trimmed same
 
 first_two : (out : List ℕ) (x y : ℕ) → 2 ≤ length out → take 2 (set (set out 0 x) 1 y) ≡ x ∷ y ∷ []
