@@ -1,5 +1,5 @@
 -- Entries and their words. Assumes nothing.
-use Rattle.std.proofs.Common.{◌≡◌, ℕ, zero, suc, ◌+◌, ◌-◌, ◌*◌, ◌<◌, ◌≤◌, Bool, true, false, cond, eqb, ◌⊎◌, List, [], ◌∷◌, ◌++◌, length, get_or, take, drop, Some, None, Option, sym, refl, ap, ◌∙◌, inl, inr, add-mul, one-mul, add-one, arith}
+use Rattle.std.proofs.Common.{◌≡◌, ℕ, zero, suc, ◌+◌, ◌-◌, ◌*◌, ◌<◌, ◌≤◌, Bool, true, false, if◌then◌else◌, eqb, ◌⊎◌, List, [], ◌∷◌, ◌++◌, length, get_or, take, drop, Some, None, Option, sym, refl, ap, ◌∙◌, inl, inr, add-mul, one-mul, add-one, arith}
 use Rattle.std.proofs.lemmas.Nat.{mul-le}
 use Rattle.std.proofs.lemmas.List.{append_assoc, length-append, length-drop, get_or-drop, take_at, drop_at, drop-drop}
 use Rattle.std.proofs.lemmas.Bool.Decides.{nat_tests}
@@ -44,7 +44,7 @@ spelled_append (x ∷ xs) ys =
     cc
 
 -- One entry more, at the end.
-pub lookup_add : (b : ℕ) (es : List Entry) (e : Entry) → lookup b (es ++ e ∷ []) ≡ cond (is_empty (lookup b es)) (cond (eqb e.box b) (Holds e.message) Empty) (lookup b es)
+pub lookup_add : (b : ℕ) (es : List Entry) (e : Entry) → lookup b (es ++ e ∷ []) ≡ (if is_empty (lookup b es) then (if eqb e.box b then Holds e.message else Empty) else lookup b es)
 lookup_add b [] e = refl
 lookup_add b (x ∷ es) e = let h = lookup_add b es e in grind (arith, nat_tests)
 
@@ -224,7 +224,7 @@ module _ (ws : List ℕ) (b at : ℕ) (w : Walk ws b at) where
     pub walk_within : at + (2 + get_or ws (at + 1) 0) ≤ length ws
     walk_within = let f = seen in omega (arith, f.head.size, f.head.within)
 
-    first : place b w.left ≡ cond (eqb (get_or ws at 0) b) (Some 0) (option_map (λ k. 2 + get_or ws (at + 1) 0 + k) (place b seen.behind))
+    first : place b w.left ≡ (if eqb (get_or ws at 0) b then Some 0 else option_map (λ k. 2 + get_or ws (at + 1) 0 + k) (place b seen.behind))
     first = let f = seen in rw (f.head.box, f.head.size) (ap (place b) f.all)
 
     pub walk_here : get_or ws at 0 ≡ b → Some at ≡ place b (entries ws)

@@ -1,5 +1,5 @@
 // The cell link as a link.
-ghost use Rattle.std.specs.Prelude.{◌≡◌, ◌+◌, ◌≤◌, cond, length, IfOk};
+ghost use Rattle.std.specs.Prelude.{◌≡◌, ◌+◌, ◌≤◌, if◌then◌else◌, length, IfOk};
 ghost use Rattle.tile.specs.declared.fault.Fault.TheVariants.{Link as LinkFault};
 ghost use Rattle.tile.specs.declared.fault.Ground.TheVariants.{Outside};
 ghost use Rattle.boxes.specs.CellState.{cell_link_model};
@@ -30,7 +30,7 @@ impl<'a> CellLink<'a> {
 
     // Where the box of a pair starts.
     fn start(&self, pair: Pair) -> Result<usize, Fault>
-        ensures is { result ≡ cond (is_pair self.now.sizes.ranks pair.from pair.to) (Ok (place self.now.sizes.ranks self.now.sizes.longest pair.from pair.to)) (Err (LinkFault Outside pair.to)) }
+        ensures is { result ≡ (if is_pair self.now.sizes.ranks pair.from pair.to then Ok (place self.now.sizes.ranks self.now.sizes.longest pair.from pair.to) else Err (LinkFault Outside pair.to)) }
         ensures within { IfOk result (λ at. at + (self.now.sizes.longest + 1) ≤ cell_words self.now.sizes.ranks self.now.sizes.longest) }
     {
         let Sizes { ranks, longest } = self.sizes;

@@ -1,5 +1,5 @@
 // The line link as a link.
-ghost use Rattle.std.specs.Prelude.{◌≡◌, ◌+◌, ◌≤◌, cond, length, IfSome, slice_index};
+ghost use Rattle.std.specs.Prelude.{◌≡◌, ◌+◌, ◌≤◌, if◌then◌else◌, length, IfSome, slice_index};
 ghost use Rattle.tile.specs.declared.fault.Fault.TheVariants.{Link as LinkFault};
 ghost use Rattle.tile.specs.declared.fault.Ground.TheVariants.{Outside};
 ghost use Rattle.link.specs.Model.{is_pair};
@@ -34,7 +34,7 @@ impl<'a> LineLink<'a> {
 
     // The number of a pair's box.
     fn number(&self, pair: Pair) -> Result<u32, Fault>
-        ensures { result ≡ cond (is_pair self.now.sizes.ranks pair.from pair.to) (Ok (box_number self.now.sizes.ranks pair.from pair.to)) (Err (LinkFault Outside pair.to)) }
+        ensures { result ≡ (if is_pair self.now.sizes.ranks pair.from pair.to then Ok (box_number self.now.sizes.ranks pair.from pair.to) else Err (LinkFault Outside pair.to)) }
     {
         pair.require(pair.is_in(self.sizes.ranks), Ground::Outside)?;
         Ok(box_number(self.sizes.ranks, pair))
