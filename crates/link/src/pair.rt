@@ -1,7 +1,6 @@
 // What every link tests and answers in the same way.
-ghost use Rattle.std.specs.Prelude.{◌≡◌, if◌then◌else◌, not};
+ghost use Rattle.std.specs.Prelude.{◌≡◌, Ok, Err, if◌then◌else◌};
 ghost use Rattle.tile.specs.declared.fault.Fault.TheVariants.{Link as LinkFault};
-ghost use Rattle.tile.specs.Answers.{first, answered};
 ghost use Rattle.link.specs.Calls.{is_length};
 ghost use Rattle.link.specs.Model.{is_pair};
 

@@ -10,6 +10,7 @@ pub trait Pixel: Copy + From<Self::Record> {
     type Record: Copy + From<Self>;
 
     // The kind's number.
+    // Stays: a kind of its own may bring any number, so it is no enum of the kinds that have names.
     const KIND: u8;
 
     // How many words a pixel has.
