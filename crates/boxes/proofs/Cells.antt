@@ -114,12 +114,8 @@ cells_vacant n l ws room zeros = same_link _ _ refl refl (λ i j. at i j (is_pai
         rw (box_is l (place n l i j) ws (omega arith), none)
     at i j false none = refl
 
--- the sizes that were asked for, or none
-pub cells_started : (ranks longest brought n l : ℕ) (zeros rest : List ℕ) → n ≡ (if suffices ranks longest (cell_words ranks longest) brought then ranks else 0) → l ≡ (if suffices ranks longest (cell_words ranks longest) brought then longest else 0) → zeros ≡ replicate (cell_words n l) 0 → cell_model n l (zeros ++ rest) ≡ started ranks longest (cell_words ranks longest) brought
-cells_started ranks longest brought n l zeros rest p q z =
-    let vacated : cell_model n l (zeros ++ rest) ≡ vacant n l = rw z (cells_vacant n l _ (simp (length-append, length-replicate) (omega arith)) (λ k h. grind (arith, places))) in
-    vacated ∙ by (suffices ranks longest (cell_words ranks longest) brought) p q
-  where
-    by : (t : Bool) → n ≡ (if t then ranks else 0) → l ≡ (if t then longest else 0) → vacant n l ≡ (if t then vacant ranks longest else vacant 0 0)
-    by true p q = rw (p, q)
-    by false p q = rw (p, q)
+-- zeros everywhere, at the sizes that were asked for
+pub cells_started : (ranks longest brought n l : ℕ) (ws : List ℕ) → ws ≡ replicate brought 0 → cell_words n l ≤ brought → n ≡ ranks → l ≡ longest → suffices ranks longest (cell_words ranks longest) brought ≡ true → cell_model n l ws ≡ started ranks longest (cell_words ranks longest) brought
+cells_started ranks longest brought n l ws z room p q fits =
+    let vacated : cell_model n l ws ≡ vacant n l = rw z (cells_vacant n l _ (simp (length-replicate) room) (λ k h. grind (arith, places))) in
+    vacated ∙ rw (p, q, fits)

@@ -21,10 +21,12 @@ impl<'a> CellLink<'a> {
     pub fn new(ranks: u32, longest: u32, words: &'a mut [u32]) -> CellLink<'a>
         ensures { cell_link_model result ≡ started ranks longest (cell_words ranks longest) (length words.old) }
     {
-        let sizes = Sizes::new(ranks, longest)
-            .filter(|sizes| sizes.cell_words() <= words.len())
-            .unwrap_or_default();
-        words[..sizes.cell_words()].fill(0);
+        let fitting = Sizes::new(ranks, longest).filter(|sizes| sizes.cell_words() <= words.len());
+        let Some(sizes) = fitting else {
+            let sizes = Sizes::default();
+            return CellLink { sizes, words };
+        };
+        words.fill(0);
         CellLink { sizes, words }
     }
 

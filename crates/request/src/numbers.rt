@@ -8,7 +8,7 @@ use crate::words::Words;
 use std::alloc::{AllocError, Global};
 
 // The number that a word writes, if it writes one that fits.
-// Stays: the library's `parse` takes a sign, which is no digit here.
+// Stays: the library's `parse` takes text and a sign, so it needs two tests before it that this loop does not.
 pub fn number_of(word: &[u8]) -> Option<u32>
     ensures { result ≡ number word.now }
 {
