@@ -97,7 +97,7 @@ fn write_lines<P: Plan, W: Write>(heap: Global, plan: &P, output: &mut W) -> any
         pixels: plan.pixels(),
         rounds,
     })?;
-    for round in 0..rounds + 1 {
+    for round in 0..=rounds {
         write_round(plan, output, round)?;
     }
     write_transfers(transfers.as_slice(), output)?;
@@ -177,7 +177,7 @@ fn write_picture<P: Plan, W: Write>(heap: Global, plan: &P, output: &mut W) -> a
         height: row_top(plan.ranks()) + ROW,
     })?;
     draw_ranks(plan, output)?;
-    for round in 0..rounds + 1 {
+    for round in 0..=rounds {
         draw_column(plan, output, round)?;
     }
     draw_transfers(transfers.as_slice(), output)?;
