@@ -31,14 +31,14 @@ module _ (s : CellLink) (from to at : ℕ) (pair : is_pair s.sizes.ranks from to
   at-within = rw is (omega (arith, place-within n l from to pair, s.room))
 
   -- the box, by its length word
-  pub box : m.boxes from to ≡ box_at l at ws
-  box = rw (pair, ← is) (box_is l at ws at-within)
+  pub pair_box : m.boxes from to ≡ box_at l at ws
+  pair_box = rw (pair, ← is) (box_is l at ws at-within)
 
   free : get_or ws at 0 ≡ 0 → m.boxes from to ≡ Empty
-  free h = let b = box in grind (arith, nat_tests)
+  free h = let b = pair_box in grind (arith, nat_tests)
 
   taken : (get_or ws at 0 ≡ 0 → ⊥) → is_empty (m.boxes from to) ≡ false
-  taken h = let b = box in grind (arith, nat_tests)
+  taken h = let b = pair_box in grind (arith, nat_tests)
 
   pub send_done : (words ws' new : List ℕ) → is_length l (length words) ≡ true → get_or ws at 0 ≡ 0 → new ≡ length words ∷ words ++ drop (length words + 1) (take (length ws - at) (drop at ws)) → ws' ≡ put_mid at (length ws - at) ws new → Send m (cell_model n l ws') from to words (Ok tt)
   send_done words ws' new fits h p q =
@@ -58,7 +58,7 @@ module _ (s : CellLink) (from to at : ℕ) (pair : is_pair s.sizes.ranks from to
       let ms = take k (drop 1 part) in
       let size : k ≡ get_or ws at 0 = k-is ∙ ap (λ t. get_or t 0 0) cut ∙ get_or-drop at ws 0 0 ∙ ap (λ i. get_or ws i 0) (omega arith) in
       let rest : drop 1 part ≡ drop (at + 1) ws = ap (drop 1) cut ∙ drop-drop 1 at ws in
-      let held : m.boxes from to ≡ Holds ms = let b = box in rw (rest, size) (grind (arith, nat_tests)) in
+      let held : m.boxes from to ≡ Holds ms = let b = pair_box in rw (rest, size) (grind (arith, nat_tests)) in
       let len : length ms ≡ k = simp (rest, length-take, length-drop) (omega arith) in
       let done = links.read_done m from to pair area room ms held in
       let all : filled_with ms area ≡ area' = ap (λ i. ms ++ drop i area) len ∙ sym filled in

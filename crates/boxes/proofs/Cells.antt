@@ -1,5 +1,5 @@
 -- Boxes that lie one after the other in memory. Assumes nothing.
-use Rattle.std.proofs.Common.{◌≡◌, ℕ, ◌+◌, ◌-◌, ◌*◌, ◌<◌, ◌≤◌, Bool, true, false, cond, ◌⊎◌, List, [], ◌∷◌, ◌++◌, length, get_or, take, drop, set, replicate, sym, refl, ap, ◌∙◌, inl, inr, arith, length-drop}
+use Rattle.std.proofs.Common.{◌≡◌, ℕ, ◌+◌, ◌-◌, ◌*◌, ◌<◌, ◌≤◌, Bool, true, false, if◌then◌else◌, ◌⊎◌, List, [], ◌∷◌, ◌++◌, length, get_or, take, drop, set, replicate, sym, refl, ap, ◌∙◌, inl, inr, arith, length-drop}
 use lib.Seq.{paste}
 use borrow.Rule.Slice.PartMut.{put_mid}
 use Rattle.boxes.specs.Cells.{cell_words, place, cell, box_of, cell_model}
@@ -107,19 +107,15 @@ module _ (n l from to : ℕ) (ws : List ℕ) (pair : is_pair n from to ≡ true)
 pub cells_vacant : (n l : ℕ) (ws : List ℕ) → cell_words n l ≤ length ws → ((k : ℕ) → k < cell_words n l → get_or ws k 0 ≡ 0) → cell_model n l ws ≡ vacant n l
 cells_vacant n l ws room zeros = same_link _ _ refl refl (λ i j. at i j (is_pair n i j) refl)
   where
-    at : (i j : ℕ) (t : Bool) → is_pair n i j ≡ t → cond t (box_of l (cell l (place n l i j) ws)) Empty ≡ Empty
+    at : (i j : ℕ) (t : Bool) → is_pair n i j ≡ t → (if t then box_of l (cell l (place n l i j) ws) else Empty) ≡ Empty
     at i j true pair =
         let within = place-within n l i j pair in
         let none = zeros (place n l i j) (omega arith) in
         rw (box_is l (place n l i j) ws (omega arith), none)
     at i j false none = refl
 
--- the sizes that were asked for, or none
-pub cells_started : (ranks longest brought n l : ℕ) (zeros rest : List ℕ) → n ≡ cond (suffices ranks longest (cell_words ranks longest) brought) ranks 0 → l ≡ cond (suffices ranks longest (cell_words ranks longest) brought) longest 0 → zeros ≡ replicate (cell_words n l) 0 → cell_model n l (zeros ++ rest) ≡ started ranks longest (cell_words ranks longest) brought
-cells_started ranks longest brought n l zeros rest p q z =
-    let vacated : cell_model n l (zeros ++ rest) ≡ vacant n l = rw z (cells_vacant n l _ (simp (length-append, length-replicate) (omega arith)) (λ k h. grind (arith, places))) in
-    vacated ∙ by (suffices ranks longest (cell_words ranks longest) brought) p q
-  where
-    by : (t : Bool) → n ≡ cond t ranks 0 → l ≡ cond t longest 0 → vacant n l ≡ cond t (vacant ranks longest) (vacant 0 0)
-    by true p q = rw (p, q)
-    by false p q = rw (p, q)
+-- zeros everywhere, at the sizes that were asked for
+pub cells_started : (ranks longest brought n l : ℕ) (ws : List ℕ) → ws ≡ replicate brought 0 → cell_words n l ≤ brought → n ≡ ranks → l ≡ longest → suffices ranks longest (cell_words ranks longest) brought ≡ true → cell_model n l ws ≡ started ranks longest (cell_words ranks longest) brought
+cells_started ranks longest brought n l ws z room p q fits =
+    let vacated : cell_model n l ws ≡ vacant n l = rw z (cells_vacant n l _ (simp (length-replicate) room) (λ k h. grind (arith, places))) in
+    vacated ∙ rw (p, q, fits)

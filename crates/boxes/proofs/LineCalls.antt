@@ -1,5 +1,5 @@
 -- The calls of the line link. Assumes nothing.
-use Rattle.std.proofs.Common.{◌≡◌, ℕ, ◌+◌, ◌-◌, ◌*◌, ◌<◌, ◌≤◌, Bool, true, false, cond, ltb, List, [], ◌∷◌, ◌++◌, length, get_or, take, drop, Some, None, Option, is_none, Ok, sym, refl, ap, ◌∙◌, subst, mul_comm, arith, lit<}
+use Rattle.std.proofs.Common.{◌≡◌, ℕ, ◌+◌, ◌-◌, ◌*◌, ◌<◌, ◌≤◌, Bool, true, false, if◌then◌else◌, ltb, List, [], ◌∷◌, ◌++◌, length, get_or, take, drop, Some, None, Option, is_none, Ok, sym, refl, ap, ◌∙◌, subst, mul_comm, arith, lit<}
 use Rattle.std.proofs.lemmas.Nat.{mul-le, mul-add-lt, div-mul-add, mod-mul-add}
 use Rattle.std.proofs.lemmas.List.{append-nil, length-take-le, take-take, get_or-take, get_or-drop, drop-take, drop-drop}
 use Rattle.std.proofs.lemmas.Bool.Decides.{nat_tests}
@@ -20,24 +20,24 @@ use Rattle.tile.specs.Words.{AreWords}
 use Rattle.boxes.proofs.Lines.{entries_of, lookup_empty, spelt_of, good_of, spelled_append, lookup_add, good_add, good_front, lookup_removed-other, lookup-removed, good_removed, room_for, Found, missing, found}
 
 -- The numbers of the boxes.
-column : (n from to : ℕ) → is_pair n from to ≡ true → (from < n) × (cond (ltb to from) to (to - 1) < n - 1)
+column : (n from to : ℕ) → is_pair n from to ≡ true → (from < n) × ((if ltb to from then to else to - 1) < n - 1)
 column n from to pair = grind (arith, nat_tests)
 
 pub number-below : (n from to : ℕ) → is_pair n from to ≡ true → box_number n from to < n * (n - 1)
 number-below n from to pair =
     let c = column n from to pair in
-    omega (arith, mul-add-lt from (n - 1) (cond (ltb to from) to (to - 1)) n c.0 c.1, mul_comm n (n - 1))
+    omega (arith, mul-add-lt from (n - 1) (if ltb to from then to else to - 1) n c.0 c.1, mul_comm n (n - 1))
 
 pub number-apart : (n i j i' j' : ℕ) → is_pair n i j ≡ true → is_pair n i' j' ≡ true → box_number n i j ≡ box_number n i' j' → (i ≡ i') × (j ≡ j')
 number-apart n i j i' j' p q e =
     let c = column n i j p in
     let c' = column n i' j' q in
-    let d = div-mul-add i (n - 1) (cond (ltb j i) j (j - 1)) c.1 in
-    let d' = div-mul-add i' (n - 1) (cond (ltb j' i') j' (j' - 1)) c'.1 in
-    let m = mod-mul-add i (n - 1) (cond (ltb j i) j (j - 1)) c.1 in
-    let m' = mod-mul-add i' (n - 1) (cond (ltb j' i') j' (j' - 1)) c'.1 in
+    let d = div-mul-add i (n - 1) (if ltb j i then j else j - 1) c.1 in
+    let d' = div-mul-add i' (n - 1) (if ltb j' i' then j' else j' - 1) c'.1 in
+    let m = mod-mul-add i (n - 1) (if ltb j i then j else j - 1) c.1 in
+    let m' = mod-mul-add i' (n - 1) (if ltb j' i' then j' else j' - 1) c'.1 in
     let row : i ≡ i' = cc in
-    let col : cond (ltb j i) j (j - 1) ≡ cond (ltb j' i') j' (j' - 1) = cc in
+    let col : (if ltb j i then j else j - 1) ≡ (if ltb j' i' then j' else j' - 1) = cc in
     (row, grind (arith, nat_tests))
 
 -- a change of the entry of one box
@@ -69,10 +69,10 @@ line_vacant n l = same_link _ _ refl refl (λ i j. at i j)
     at i j = let e = ap (lookup (box_number n i j)) (entries_of [] [] refl) in grind (arith, nat_tests)
 
 -- the line as it starts
-pub line_started : (ranks longest brought n l : ℕ) → n ≡ cond (suffices ranks longest (line_words ranks longest) brought) ranks 0 → l ≡ cond (suffices ranks longest (line_words ranks longest) brought) longest 0 → line_model n l [] ≡ started ranks longest (line_words ranks longest) brought
+pub line_started : (ranks longest brought n l : ℕ) → n ≡ (if suffices ranks longest (line_words ranks longest) brought then ranks else 0) → l ≡ (if suffices ranks longest (line_words ranks longest) brought then longest else 0) → line_model n l [] ≡ started ranks longest (line_words ranks longest) brought
 line_started ranks longest brought n l p q = line_vacant n l ∙ by (suffices ranks longest (line_words ranks longest) brought) p q
   where
-    by : (t : Bool) → n ≡ cond t ranks 0 → l ≡ cond t longest 0 → vacant n l ≡ cond t (vacant ranks longest) (vacant 0 0)
+    by : (t : Bool) → n ≡ (if t then ranks else 0) → l ≡ (if t then longest else 0) → vacant n l ≡ (if t then vacant ranks longest else vacant 0 0)
     by true p q = rw (p, q)
     by false p q = rw (p, q)
 

@@ -1,5 +1,5 @@
 -- Entries and their words. Assumes nothing.
-use Rattle.std.proofs.Common.{◌≡◌, ℕ, zero, suc, ◌+◌, ◌-◌, ◌*◌, ◌<◌, ◌≤◌, Bool, true, false, cond, eqb, ◌⊎◌, List, [], ◌∷◌, ◌++◌, length, get_or, take, drop, Some, None, Option, sym, refl, ap, ◌∙◌, inl, inr, add-mul, one-mul, add-one, arith}
+use Rattle.std.proofs.Common.{◌≡◌, ℕ, zero, suc, ◌+◌, ◌-◌, ◌*◌, ◌<◌, ◌≤◌, Bool, true, false, if◌then◌else◌, eqb, ◌⊎◌, List, [], ◌∷◌, ◌++◌, length, get_or, take, drop, Some, None, Option, sym, refl, ap, ◌∙◌, inl, inr, add-mul, one-mul, add-one, arith}
 use Rattle.std.proofs.lemmas.Nat.{mul-le}
 use Rattle.std.proofs.lemmas.List.{append_assoc, length-append, length-drop, get_or-drop, take_at, drop_at, drop-drop}
 use Rattle.std.proofs.lemmas.Bool.Decides.{nat_tests}
@@ -44,7 +44,7 @@ spelled_append (x ∷ xs) ys =
     cc
 
 -- One entry more, at the end.
-pub lookup_add : (b : ℕ) (es : List Entry) (e : Entry) → lookup b (es ++ e ∷ []) ≡ cond (is_empty (lookup b es)) (cond (eqb e.box b) (Holds e.message) Empty) (lookup b es)
+pub lookup_add : (b : ℕ) (es : List Entry) (e : Entry) → lookup b (es ++ e ∷ []) ≡ (if is_empty (lookup b es) then (if eqb e.box b then Holds e.message else Empty) else lookup b es)
 lookup_add b [] e = refl
 lookup_add b (x ∷ es) e = let h = lookup_add b es e in grind (arith, nat_tests)
 
@@ -58,8 +58,8 @@ good_add m l (x ∷ es) e g s h =
 -- One entry less.
 empty_is : (s : BoxState) → is_empty s ≡ true → s ≡ Empty
 empty_is Empty h = refl
-empty_is (Holds ws) h = let z : ◌≡◌ {A = ℕ} 0 1 = cc in absurd (omega arith)
-empty_is Spoilt h = let z : ◌≡◌ {A = ℕ} 0 1 = cc in absurd (omega arith)
+empty_is (Holds ws) h = absurd cc
+empty_is Spoilt h = absurd cc
 
 pub lookup_empty : (b : ℕ) (es : List Entry) → is_empty (lookup b es) ≡ true → lookup b es ≡ Empty
 lookup_empty b es h = empty_is (lookup b es) h
@@ -224,7 +224,7 @@ module _ (ws : List ℕ) (b at : ℕ) (w : Walk ws b at) where
     pub walk_within : at + (2 + get_or ws (at + 1) 0) ≤ length ws
     walk_within = let f = seen in omega (arith, f.head.size, f.head.within)
 
-    first : place b w.left ≡ cond (eqb (get_or ws at 0) b) (Some 0) (option_map (λ k. 2 + get_or ws (at + 1) 0 + k) (place b seen.behind))
+    first : place b w.left ≡ (if eqb (get_or ws at 0) b then Some 0 else option_map (λ k. 2 + get_or ws (at + 1) 0 + k) (place b seen.behind))
     first = let f = seen in rw (f.head.box, f.head.size) (ap (place b) f.all)
 
     pub walk_here : get_or ws at 0 ≡ b → Some at ≡ place b (entries ws)
@@ -255,12 +255,12 @@ module _ (ws : List ℕ) (b : ℕ) where
   pub missing : None ≡ place b (entries ws) → lookup b (entries ws) ≡ Empty
   missing is = elim (split b (entries ws)) [
     | inl p ↦ p.0
-    | inr s ↦ let e = s.start in let z : ◌≡◌ {A = ℕ} 0 1 = cc in absurd (omega arith)
+    | inr s ↦ let e = s.start in absurd cc
   ]
 
   pub found : (at : ℕ) → Spelt ws → Some at ≡ place b (entries ws) → Found b ws at
   found at h is = elim (split b (entries ws)) [
-    | inl p ↦ let e = p.1 in let z : ◌≡◌ {A = ℕ} 0 1 = cc in absurd (omega arith)
+    | inl p ↦ let e = p.1 in absurd cc
     | inr s ↦
         let e = s.entry in
         let x = spelled s.before in

@@ -1,5 +1,5 @@
 -- The cell link keeps the laws of a link. Assumes nothing.
-use Rattle.std.proofs.Common.{◌≡◌, ℕ, zero, suc, ◌+◌, ◌*◌, ◌<◌, ◌≤◌, Bool, true, false, cond, eqb, leb, List, [], ◌∷◌, length, get_or, take, drop, refl, ap, ◌∙◌, add-mul, one-mul, add-one, arith, lit<, length-drop, length-take}
+use Rattle.std.proofs.Common.{◌≡◌, ℕ, zero, suc, ◌+◌, ◌*◌, ◌<◌, ◌≤◌, Bool, true, false, if◌then◌else◌, eqb, leb, List, [], ◌∷◌, length, get_or, take, drop, refl, ap, ◌∙◌, add-mul, one-mul, add-one, arith, lit<, length-drop, length-take}
 use Rattle.std.proofs.lemmas.Nat.{mul-le, mul-add-lt}
 use Rattle.std.proofs.lemmas.List.{drop_more, take-take, get_or-drop}
 use Rattle.std.proofs.lemmas.Bool.Decides.{nat_tests}
@@ -41,7 +41,7 @@ cell-head l at ws h = ap (take (l + 1)) (drop_more ws at 0 h) ∙ ap (λ n. take
 
 -- a box by its length word
 abbrev pub box_at : ℕ → ℕ → List ℕ → BoxState
-box_at l at ws = cond (eqb (get_or ws at 0) 0) Empty (cond (leb (get_or ws at 0) l) (Holds (take (get_or ws at 0) (drop (at + 1) ws))) Spoilt)
+box_at l at ws = if eqb (get_or ws at 0) 0 then Empty else (if leb (get_or ws at 0) l then Holds (take (get_or ws at 0) (drop (at + 1) ws)) else Spoilt)
 
 pub box_is : (l at : ℕ) (ws : List ℕ) → at + (l + 1) ≤ length ws → box_of l (cell l at ws) ≡ box_at l at ws
 box_is l at ws h =
@@ -56,7 +56,7 @@ box-allowed n l at ws within room words = by (eqb size 0) refl (leb size l) refl
     size : ℕ
     size = get_or ws at 0
 
-    by : (t : Bool) → eqb size 0 ≡ t → (u : Bool) → leb size l ≡ u → Allowed l (cond t Empty (cond u (Holds (take size (drop (at + 1) ws))) Spoilt))
+    by : (t : Bool) → eqb size 0 ≡ t → (u : Bool) → leb size l ≡ u → Allowed l (if t then Empty else (if u then Holds (take size (drop (at + 1) ws)) else Spoilt))
     by true p u q = tt
     by false p false q = tt
     by false p true q =
@@ -67,7 +67,7 @@ box-allowed n l at ws within room words = by (eqb size 0) refl (leb size l) refl
 pub cell-lawful : (n l : ℕ) (ws : List ℕ) → n ≤ 32 → l ≤ 5200 → cell_words n l ≤ length ws → WordsBelow (cell_words n l) ws → LinkLaws (cell_model n l ws)
 cell-lawful n l ws few short room words = record { few = few; short = short; allowed = λ i j. at i j (is_pair n i j) refl }
   where
-    at : (i j : ℕ) (t : Bool) → is_pair n i j ≡ t → Allowed l (cond t (box_of l (cell l (place n l i j) ws)) Empty)
+    at : (i j : ℕ) (t : Bool) → is_pair n i j ≡ t → Allowed l (if t then box_of l (cell l (place n l i j) ws) else Empty)
     at i j true pair =
         let within = place-within n l i j pair in
         rw (box_is l (place n l i j) ws (omega arith)) (box-allowed (cell_words n l) l (place n l i j) ws within room words)

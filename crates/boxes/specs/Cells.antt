@@ -1,5 +1,5 @@
 -- How the cell link lays its boxes out in words. Assumes nothing.
-use Rattle.std.specs.Prelude.{ℕ, ◌+◌, ◌*◌, cond, List, [], ◌∷◌, take, drop, ◌==◌, nat_le}
+use Rattle.std.specs.Prelude.{ℕ, ◌+◌, ◌*◌, if◌then◌else◌, List, [], ◌∷◌, take, drop, ◌==◌, nat_le}
 use Rattle.link.specs.Model.{LinkModel, BoxState, Empty, Holds, Spoilt, is_pair}
 
 -- the words of all boxes
@@ -17,12 +17,12 @@ cell longest at ws = take (longest + 1) (drop at ws)
 -- a box, from its words: the length, 0 where it is empty, and then the message
 abbrev pub box_of : ℕ → List ℕ → BoxState
 box_of longest [] = Empty
-box_of longest (count ∷ ws) = cond (count == 0) Empty (cond (nat_le count longest) (Holds (take count ws)) Spoilt)
+box_of longest (count ∷ ws) = if count == 0 then Empty else (if nat_le count longest then Holds (take count ws) else Spoilt)
 
 -- the link of these sizes over these words
 abbrev pub cell_model : ℕ → ℕ → List ℕ → LinkModel
 cell_model ranks longest ws = record {
   ranks = ranks;
   longest = longest;
-  boxes = λ i j. cond (is_pair ranks i j) (box_of longest (cell longest (place ranks longest i j) ws)) Empty;
+  boxes = λ i j. if is_pair ranks i j then box_of longest (cell longest (place ranks longest i j) ws) else Empty;
 }

@@ -1,6 +1,6 @@
 -- How the line link lays its waiting messages out in words: one behind the other in order of sending, each behind the
 -- number of its box and its length. Assumes nothing.
-use Rattle.std.specs.Prelude.{◌≡◌, ℕ, zero, suc, ◌+◌, ◌-◌, ◌*◌, Bool, true, cond, ◌&&◌, List, [], ◌∷◌, ◌++◌, length, take, drop, Some, None, Option, ◌==◌, nat_lt}
+use Rattle.std.specs.Prelude.{◌≡◌, ℕ, zero, suc, ◌+◌, ◌-◌, ◌*◌, Bool, true, if◌then◌else◌, ◌&&◌, List, [], ◌∷◌, ◌++◌, length, take, drop, Some, None, Option, ◌==◌, nat_lt}
 use Rattle.tile.specs.Answers.{kept}
 use Rattle.std.specs.Option.{option_map}
 use Rattle.link.specs.Calls.{is_length, send_fault, clear_fault}
@@ -16,7 +16,7 @@ line_words ranks longest = box_count ranks * (longest + 2)
 
 -- The boxes are numbered from 0 by sender and then by receiver, the sender itself left out.
 abbrev pub box_number : ℕ → ℕ → ℕ → ℕ
-box_number ranks from to = from * (ranks - 1) + cond (nat_lt to from) to (to - 1)
+box_number ranks from to = from * (ranks - 1) + (if nat_lt to from then to else to - 1)
 
 -- a waiting message and the number of its box
 pub record Entry : Type 0 where
@@ -42,17 +42,17 @@ entries ws = parsed (length ws) ws
 -- what a box holds
 abbrev pub lookup : ℕ → List Entry → BoxState
 lookup box [] = Empty
-lookup box (e ∷ es) = cond (e.box == box) (Holds e.message) (lookup box es)
+lookup box (e ∷ es) = if e.box == box then Holds e.message else lookup box es
 
 -- where the entry of a box starts, if there is one
 abbrev pub place : ℕ → List Entry → Option ℕ
 place box [] = None
-place box (e ∷ es) = cond (e.box == box) (Some 0) (option_map (λ at. 2 + length e.message + at) (place box es))
+place box (e ∷ es) = if e.box == box then Some 0 else option_map (λ at. 2 + length e.message + at) (place box es)
 
 -- the entries without that of a box
 abbrev pub removed : ℕ → List Entry → List Entry
 removed box [] = []
-removed box (e ∷ es) = cond (e.box == box) es (e ∷ removed box es)
+removed box (e ∷ es) = if e.box == box then es else e ∷ removed box es
 
 -- whether an entry is for one of so many boxes, with a message that may be sent
 abbrev pub is_sound : ℕ → ℕ → Entry → Bool
@@ -76,7 +76,7 @@ abbrev pub line_model : ℕ → ℕ → List ℕ → LinkModel
 line_model ranks longest ws = record {
   ranks = ranks;
   longest = longest;
-  boxes = λ i j. cond (is_pair ranks i j) (lookup (box_number ranks i j) (entries ws)) Empty;
+  boxes = λ i j. if is_pair ranks i j then lookup (box_number ranks i j) (entries ws) else Empty;
 }
 
 -- the waiting messages after a send: the sent one is the last

@@ -1,5 +1,5 @@
 -- The sizes of a link over lent words, and the link as it starts. Assumes nothing.
-use Rattle.std.specs.Prelude.{ℕ, ◌^◌, ◌<◌, Bool, cond, ◌&&◌, List, nat_le, slice_index}
+use Rattle.std.specs.Prelude.{ℕ, ◌^◌, ◌<◌, Bool, if◌then◌else◌, ◌&&◌, List, nat_le, slice_index}
 use Rattle.link.specs.Model.{LinkModel, vacant}
 
 abbrev pub in_limits : ℕ → ℕ → Bool
@@ -11,7 +11,7 @@ suffices ranks longest needed brought = in_limits ranks longest && nat_le needed
 
 -- the link as it starts: all boxes empty, or no ranks
 abbrev pub started : ℕ → ℕ → ℕ → ℕ → LinkModel
-started ranks longest needed brought = cond (suffices ranks longest needed brought) (vacant ranks longest) (vacant 0 0)
+started ranks longest needed brought = if suffices ranks longest needed brought then vacant ranks longest else vacant 0 0
 
 -- the first `n` are words
 abbrev pub WordsBelow : ℕ → List ℕ → Type 0

@@ -1,5 +1,5 @@
 // The cell link as a link.
-ghost use Rattle.std.specs.Prelude.{◌≡◌, ◌+◌, ◌≤◌, cond, length, IfOk};
+ghost use Rattle.std.specs.Prelude.{◌≡◌, ◌+◌, ◌≤◌, if◌then◌else◌, length, IfOk};
 ghost use Rattle.tile.specs.declared.fault.Fault.TheVariants.{Link as LinkFault};
 ghost use Rattle.tile.specs.declared.fault.Ground.TheVariants.{Outside};
 ghost use Rattle.boxes.specs.CellState.{cell_link_model};
@@ -21,16 +21,18 @@ impl<'a> CellLink<'a> {
     pub fn new(ranks: u32, longest: u32, words: &'a mut [u32]) -> CellLink<'a>
         ensures { cell_link_model result ≡ started ranks longest (cell_words ranks longest) (length words.old) }
     {
-        let sizes = Sizes::new(ranks, longest)
-            .filter(|sizes| sizes.cell_words() <= words.len())
-            .unwrap_or_default();
-        words[..sizes.cell_words()].fill(0);
+        let fitting = Sizes::new(ranks, longest).filter(|sizes| sizes.cell_words() <= words.len());
+        let Some(sizes) = fitting else {
+            let sizes = Sizes::default();
+            return CellLink { sizes, words };
+        };
+        words.fill(0);
         CellLink { sizes, words }
     }
 
     // Where the box of a pair starts.
     fn start(&self, pair: Pair) -> Result<usize, Fault>
-        ensures is { result ≡ cond (is_pair self.now.sizes.ranks pair.from pair.to) (Ok (place self.now.sizes.ranks self.now.sizes.longest pair.from pair.to)) (Err (LinkFault Outside pair.to)) }
+        ensures is { result ≡ (if is_pair self.now.sizes.ranks pair.from pair.to then Ok (place self.now.sizes.ranks self.now.sizes.longest pair.from pair.to) else Err (LinkFault Outside pair.to)) }
         ensures within { IfOk result (λ at. at + (self.now.sizes.longest + 1) ≤ cell_words self.now.sizes.ranks self.now.sizes.longest) }
     {
         let Sizes { ranks, longest } = self.sizes;
@@ -79,6 +81,7 @@ impl<'a> Link for CellLink<'a> {
         self.read_words(pair, area)
     }
 
+    #[tactic(auto, using(crate::proofs::CellCalls::pair_box))]
     fn clear(&mut self, pair: Pair) -> Result<(), Fault> {
         let at = self.start(pair)?;
         pair.require(self.words[at] != 0, Ground::BoxEmpty)?;

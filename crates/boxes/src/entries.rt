@@ -18,7 +18,7 @@ pub(super) fn box_number(ranks: u32, pair: Pair) -> u32
 }
 
 // Where the entry of a box starts, if there is one.
-// Stays: the walk by a place, since each step's length is read at it; an iterator of entries is longer than the loop.
+// Stays: the walk by a place, since the place is the answer; an iterator would yield places too, and need the spelling of what is left as an invariant.
 pub(super) fn find(line: &[u32], wanted: u32) -> Option<usize>
     requires { Spelt line.now }
     ensures { result ≡ place wanted (entries line.now) }

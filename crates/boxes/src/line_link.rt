@@ -1,5 +1,5 @@
 // The line link as a link.
-ghost use Rattle.std.specs.Prelude.{◌≡◌, ◌+◌, ◌≤◌, cond, length, IfSome, slice_index};
+ghost use Rattle.std.specs.Prelude.{◌≡◌, ◌+◌, ◌≤◌, if◌then◌else◌, length, IfSome, slice_index};
 ghost use Rattle.tile.specs.declared.fault.Fault.TheVariants.{Link as LinkFault};
 ghost use Rattle.tile.specs.declared.fault.Ground.TheVariants.{Outside};
 ghost use Rattle.link.specs.Model.{is_pair};
@@ -34,7 +34,7 @@ impl<'a> LineLink<'a> {
 
     // The number of a pair's box.
     fn number(&self, pair: Pair) -> Result<u32, Fault>
-        ensures { result ≡ cond (is_pair self.now.sizes.ranks pair.from pair.to) (Ok (box_number self.now.sizes.ranks pair.from pair.to)) (Err (LinkFault Outside pair.to)) }
+        ensures { result ≡ (if is_pair self.now.sizes.ranks pair.from pair.to then Ok (box_number self.now.sizes.ranks pair.from pair.to) else Err (LinkFault Outside pair.to)) }
     {
         pair.require(pair.is_in(self.sizes.ranks), Ground::Outside)?;
         Ok(box_number(self.sizes.ranks, pair))
@@ -73,6 +73,7 @@ impl<'a> Link for LineLink<'a> {
         self.sizes.longest
     }
 
+    #[tactic(auto, using(crate::proofs::LineCalls::vacancy))]
     fn send(&mut self, pair: Pair, words: &[u32]) -> Result<(), Fault>
         ensures call { Send (line_link_model self.old) (line_link_model self.new) pair.from pair.to words.now result }
         ensures order { Queued (line_link_model self.old) pair.from pair.to words.now (queue self.old) (queue self.new) }
@@ -93,19 +94,22 @@ impl<'a> Link for LineLink<'a> {
     }
 
     // The line ends before the entry while the words behind it move down.
+    #[tactic(auto, using(crate::proofs::LineCalls::vacancy))]
     fn clear(&mut self, pair: Pair) -> Result<(), Fault>
         ensures call { Clear (line_link_model self.old) (line_link_model self.new) pair.from pair.to result }
         ensures order { Dequeued (line_link_model self.old) pair.from pair.to (queue self.old) (queue self.new) }
     {
         let number = self.number(pair)?;
         let at = self.seek(number).ok_or(pair.fault(Ground::BoxEmpty))?;
-        let (used, next) = (self.used, at + 2 + self.words[at + 1] as usize);
+        let used = self.used;
+        let next = at + 2 + self.words[at + 1] as usize;
         self.used = at;
         self.words.copy_within(next..used, at);
         self.used = at + (used - next);
         Ok(())
     }
 
+    #[tactic(auto, using(crate::proofs::LineCalls::vacancy))]
     fn waiting(&self, pair: Pair) -> Result<bool, Fault> {
         let number = self.number(pair)?;
         Ok(self.seek(number).is_some())

@@ -45,6 +45,7 @@ fn transfers_of<P: Plan>(heap: Global, plan: &P) -> anyhow::Result<Vec<Transfer>
 }
 
 // A line for each rank in a round.
+// Stays: a plan and where it is written go side by side, as in any `write`, and a struct of the two is no plainer.
 fn write_round<P: Plan, W: Write>(plan: &P, output: &mut W, round: u32) -> anyhow::Result<()>
     requires { round ≤ (P.model plan.now).rounds }
     ensures { OnOk result (Appends (W.contents output.old) (W.contents output.new) (round_lines (P.model plan.now) round)) }
@@ -193,6 +194,7 @@ fn tell<P: Plan + Drop, W: Write>(
 ) -> anyhow::Result<()>
     ensures { OnOk result ((text : List ℕ) × Tells P.model form made text × Appends (W.contents output.old) (W.contents output.new) text) }
 {
+    // Stays: no closure is generic over plans, so how one is shown is told by an enum.
     match (made, form) {
         (Ok(plan), Form::Lines) => write_lines(heap, &plan, output),
         (Ok(plan), Form::Picture) => write_picture(heap, &plan, output),

@@ -1,5 +1,5 @@
 -- Digits read one by one. Assumes nothing.
-use Rattle.std.proofs.Common.{◌≡◌, ℕ, zero, suc, ◌+◌, ◌*◌, ◌%◌, ◌<◌, Bool, true, false, cond, ◌||◌, List, [], ◌∷◌, ◌++◌, length, get_or, drop, is_some, Some, None, Option, sym, refl, ap, ◌∙◌, append_assoc, arith}
+use Rattle.std.proofs.Common.{◌≡◌, ℕ, zero, suc, ◌+◌, ◌*◌, ◌%◌, ◌<◌, Bool, true, false, if◌then◌else◌, ◌||◌, List, [], ◌∷◌, ◌++◌, length, get_or, drop, is_some, Some, None, Option, sym, refl, ap, ◌∙◌, append_assoc, arith}
 use Rattle.std.proofs.lemmas.List.{drop_more}
 use Rattle.std.proofs.lemmas.Bool.{cond-true, cond-false}
 use Rattle.std.proofs.lemmas.Bool.Decides.{nat_tests}
@@ -14,7 +14,7 @@ prepend-more xs x None = refl
 prepend-more xs x (Some ys) = ap Some (sym (append_assoc xs (x ∷ []) ys))
 
 module _ (text : List ℕ) (i : ℕ) (below : i < length text) where
-  here : digits_in (drop i text) ≡ cond (is_space (get_or text i 0)) (digits_in (drop (i + 1) text)) (put_front (digit (get_or text i 0)) (digits_in (drop (i + 1) text)))
+  here : digits_in (drop i text) ≡ (if is_space (get_or text i 0) then digits_in (drop (i + 1) text) else put_front (digit (get_or text i 0)) (digits_in (drop (i + 1) text)))
   here = ap digits_in (drop_more text i 0 below)
 
   pub space_more : (xs : List ℕ) → is_space (get_or text i 0) ≡ true → digits_in text ≡ prepend xs (digits_in (drop i text)) → digits_in text ≡ prepend xs (digits_in (drop (i + 1) text))

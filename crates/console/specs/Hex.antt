@@ -1,5 +1,5 @@
 -- Bytes written as pairs of hexadecimal digits. Assumes nothing.
-use Rattle.std.specs.Prelude.{◌≡◌, ℕ, ◌+◌, ◌-◌, ◌*◌, ◌<◌, Bool, true, false, cond, ◌&&◌, ◌||◌, List, [], ◌∷◌, ◌++◌, length, is_some, Some, None, codes, decimal, Option, nat_le, slice_index}
+use Rattle.std.specs.Prelude.{◌≡◌, ℕ, ◌+◌, ◌-◌, ◌*◌, ◌<◌, Bool, true, false, if◌then◌else◌, ◌&&◌, ◌||◌, List, [], ◌∷◌, ◌++◌, length, is_some, Some, None, codes, decimal, Option, nat_le, slice_index}
 use Rattle.request.specs.Numbers.{put_front}
 use Rattle.request.specs.Words.{is_space}
 use Rattle.console.specs.declared.hex.HexFault.{HexFault}
@@ -8,14 +8,14 @@ use Rattle.console.specs.declared.hex.HexFault.TheVariants.{NoDigit, OddDigit, M
 -- the value of a digit, 0 to 9, A to F or a to f
 abbrev pub digit : ℕ → Option ℕ
 digit c =
-    cond (nat_le 48 c && nat_le c 57) (Some (c - 48))
-    (cond (nat_le 65 c && nat_le c 70) (Some (c - 65 + 10))
-    (cond (nat_le 97 c && nat_le c 102) (Some (c - 97 + 10)) None))
+    if nat_le 48 c && nat_le c 57 then Some (c - 48)
+    else (if nat_le 65 c && nat_le c 70 then Some (c - 65 + 10)
+    else (if nat_le 97 c && nat_le c 102 then Some (c - 97 + 10) else None))
 
 -- the values of the digits of a text, white space left out; none where another character stands
 abbrev pub digits_in : List ℕ → Option (List ℕ)
 digits_in [] = Some []
-digits_in (c ∷ cs) = cond (is_space c) (digits_in cs) (put_front (digit c) (digits_in cs))
+digits_in (c ∷ cs) = if is_space c then digits_in cs else put_front (digit c) (digits_in cs)
 
 -- two digits make a byte, the high one first
 abbrev pub paired : List ℕ → Option (List ℕ)

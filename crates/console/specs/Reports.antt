@@ -1,5 +1,5 @@
 -- What is told of a dump, as text. Assumes nothing.
-use Rattle.std.specs.Prelude.{◌≡◌, ℕ, cond, ◌⊎◌, List, [], ◌∷◌, ◌++◌, Some, codes, decimal, ◌≢◌}
+use Rattle.std.specs.Prelude.{◌≡◌, ℕ, if◌then◌else◌, ◌⊎◌, List, [], ◌∷◌, ◌++◌, Some, codes, decimal, ◌≢◌}
 use Rattle.std.specs.List.{flat_map}
 use Rattle.tile.specs.declared.fault.Fault.{Fault}
 use Rattle.tile.specs.Texts.{fault_text}
@@ -29,7 +29,7 @@ pixel_line rank number ws = (codes "  " ++ (decimal rank ++ (codes "." ++ (decim
 
 -- the line of a pixel, nothing of a blank one
 abbrev pub shown_pixel : Placed → List ℕ
-shown_pixel p = cond (all_zero p.words) [] (pixel_line p.rank p.number p.words)
+shown_pixel p = if all_zero p.words then [] else pixel_line p.rank p.number p.words
 
 -- a line for each pixel that is not blank
 abbrev pub pixel_lines : List Placed → List ℕ

@@ -1,5 +1,5 @@
 -- Numbers in bytes, high byte first, and the pixel that a body spells. Assumes nothing.
-use Rattle.std.specs.Prelude.{ℕ, ◌+◌, ◌*◌, Bool, cond, List, [], ◌∷◌, length, None, Option, ◌==◌, nat_le, slice_index}
+use Rattle.std.specs.Prelude.{ℕ, ◌+◌, ◌*◌, Bool, if◌then◌else◌, List, [], ◌∷◌, length, None, Option, ◌==◌, nat_le, slice_index}
 use Rattle.std.specs.List.{list_all}
 use Rattle.tile.specs.Kinds.{Kind}
 use Rattle.dump.specs.declared.words.BodyWords.{BodyWords}
@@ -26,4 +26,4 @@ words_left s = words_in s.rest.now
 
 -- the pixel whose words a body spells; no pixel record spells more than five
 abbrev pub body_pixel : {P R : Type 0} → Kind P R → List ℕ → Option P
-body_pixel m body = cond (nat_le (length body) 20) (m.reads (words_in body)) None
+body_pixel m body = if nat_le (length body) 20 then m.reads (words_in body) else None

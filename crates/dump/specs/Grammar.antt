@@ -1,5 +1,5 @@
 -- The form of a dump as a grammar: HEAD, a section for each rank in order, END and no more. Assumes nothing.
-use Rattle.std.specs.Prelude.{◌≡◌, ℕ, ◌+◌, ◌*◌, ◌<◌, ◌≤◌, true, cond, ◌&&◌, ◌⊎◌, List, [], ◌∷◌, ◌++◌, length, replicate, ◌==◌, slice_index}
+use Rattle.std.specs.Prelude.{◌≡◌, ℕ, ◌+◌, ◌*◌, ◌<◌, ◌≤◌, true, if◌then◌else◌, ◌&&◌, ◌⊎◌, List, [], ◌∷◌, ◌++◌, length, replicate, ◌==◌, slice_index}
 use Rattle.tile.specs.Named.{named_width, named_lawful}
 use Rattle.dump.specs.Phases.{Heading}
 use Rattle.dump.specs.Bytes.{half, words_in}
@@ -80,7 +80,7 @@ pub record HasForm (bytes : List ℕ) (c : Content) : Type 0 where
 -- the words at a number of a rank's picture: those of the pixel placed there, or ws if there is none
 abbrev pub shown : List ℕ → List Placed → ℕ → ℕ → List ℕ
 shown ws [] r i = ws
-shown ws (p ∷ ps) r i = shown (cond (p.rank == r && p.number == i) p.words ws) ps r i
+shown ws (p ∷ ps) r i = shown (if p.rank == r && p.number == i then p.words else ws) ps r i
 
 -- the words of rank r's pixel i: as many zero words as the kind has where none stands
 abbrev pub picture : Content → ℕ → ℕ → List ℕ

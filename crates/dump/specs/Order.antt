@@ -1,5 +1,5 @@
 -- The grounds on which a record is refused, by how far the dump has been read, and the first faulty record. Assumes nothing.
-use Rattle.std.specs.Prelude.{◌≡◌, ℕ, ◌+◌, ◌-◌, Bool, false, cond, not, ◌&&◌, ◌||◌, List, [], ◌∷◌, length, Some, None, Option, Result, MatchResult, ◌==◌, nat_le, nat_lt, slice_index}
+use Rattle.std.specs.Prelude.{◌≡◌, ℕ, ◌+◌, ◌-◌, Bool, false, if◌then◌else◌, not, ◌&&◌, ◌||◌, List, [], ◌∷◌, length, Some, None, Option, Result, MatchResult, ◌==◌, nat_le, nat_lt, slice_index}
 use Rattle.tile.specs.declared.fault.Fault.{Fault}
 use Rattle.tile.specs.declared.fault.Fault.TheVariants.{Dump}
 use Rattle.tile.specs.declared.fault.Ground.{Ground}
@@ -15,7 +15,7 @@ use Rattle.dump.specs.Records.{body_size, kind_told, kind_at, body_at, behind, n
 
 -- a body of another length than its kind's is cut short; else its own grounds count
 abbrev pub whole : ℕ → List ℕ → Option Ground → Option Ground
-whole k b o = cond (length b == body_size k) o (Some CutShort)
+whole k b o = if length b == body_size k then o else Some CutShort
 
 -- 1 to 32 ranks and 1 to 1,024 pixels
 abbrev pub in_limits : Heading → Bool
@@ -61,10 +61,10 @@ end_ground (Behind h) = Some OutOfPlace
 unfoldable pub record_ground : Phase → ℕ → List ℕ → Option Ground
 record_ground s k b =
     whole k b
-    (cond (k == 1) (head_ground s b)
-    (cond (k == 2) (rank_ground s b)
-    (cond (k == 3) (place_ground s b)
-    (cond (k == 6) (end_ground s) (pixel_ground (kind_told k) s b)))))
+    (if k == 1 then head_ground s b
+    else (if k == 2 then rank_ground s b
+    else (if k == 3 then place_ground s b
+    else (if k == 6 then end_ground s else pixel_ground (kind_told k) s b))))
 
 -- the stage behind a sound pixel
 abbrev pub onward : Phase → Phase
@@ -76,9 +76,9 @@ onward (Behind h) = Behind h
 abbrev pub next : Phase → ℕ → List ℕ → Phase
 next Before k b = Between (record { head = head_of b; sections = 0; due = 0 })
 next (Between p) k b =
-    cond (k == 2) (Between (record { head = p.head; sections = p.sections + 1; due = 0 }))
-    (cond (k == 3) (Between (record { head = p.head; sections = p.sections; due = half b 0 }))
-    (cond (k == 6) (Behind p.head) (onward (Between p))))
+    if k == 2 then Between (record { head = p.head; sections = p.sections + 1; due = 0 })
+    else (if k == 3 then Between (record { head = p.head; sections = p.sections; due = half b 0 })
+    else (if k == 6 then Behind p.head else onward (Between p)))
 next (Behind h) k b = Behind h
 
 abbrev pub or_else : {A : Type 0} → Option A → Option A → Option A
@@ -106,12 +106,12 @@ finished (Behind h) left = left == 0
 
 -- the last sound RANK's rank
 abbrev pub last_rank : ℕ → ℕ
-last_rank sections = cond (sections == 0) no_rank (sections - 1)
+last_rank sections = if sections == 0 then no_rank else sections - 1
 
 -- the rank that a fault tells: for a wrong rank the one due, else the last sound RANK's
 abbrev pub rank_told : Phase → Ground → ℕ
 rank_told Before g = no_rank
-rank_told (Between p) g = cond (number_of g == 4) p.sections (last_rank p.sections)
+rank_told (Between p) g = if number_of g == 4 then p.sections else last_rank p.sections
 rank_told (Behind h) g = last_rank h.ranks
 
 -- the first faulty record stands behind sound ones

@@ -1,5 +1,5 @@
 -- The pixels that are handed out of a dump. Assumes nothing.
-use Rattle.std.specs.Prelude.{◌≡◌, ℕ, zero, suc, ◌-◌, ◌≤◌, cond, List, [], ◌∷◌, ◌++◌, length, drop, Some, None, Option, Result, MatchResult, ◌==◌}
+use Rattle.std.specs.Prelude.{◌≡◌, ℕ, zero, suc, ◌-◌, ◌≤◌, if◌then◌else◌, List, [], ◌∷◌, ◌++◌, length, drop, Some, None, Option, Result, MatchResult, ◌==◌}
 use Rattle.tile.specs.declared.fault.Ground.{Ground}
 use Rattle.dump.specs.declared.pixels.PixelAt.{PixelAt}
 use Rattle.dump.specs.declared.pixels.Pixels.{Pixels}
@@ -13,7 +13,7 @@ use Rattle.dump.specs.Records.{kind_told, kind_at, body_at, behind}
 -- the pixel that a sound record places at a stage, if it is a pixel record
 abbrev pub placed : Phase → ℕ → List ℕ → List Placed
 placed Before k b = []
-placed (Between p) k b = cond (kind_told k == 0) [] (record { rank = p.sections - 1; number = p.due; words = words_in b } ∷ [])
+placed (Between p) k b = if kind_told k == 0 then [] else record { rank = p.sections - 1; number = p.due; words = words_in b } ∷ []
 placed (Behind h) k b = []
 
 -- no pixels where a record is refused

@@ -1,5 +1,5 @@
 -- The records of a dump: one byte of kind, then a body whose length the kind fixes. Assumes nothing.
-use Rattle.std.specs.Prelude.{◌≡◌, ℕ, ◌+◌, ◌*◌, ◌≤◌, Bool, cond, not, ◌&&◌, List, [], ◌∷◌, ◌++◌, length, take, drop, Option, ◌==◌, nat_le, nat_lt, slice_index}
+use Rattle.std.specs.Prelude.{◌≡◌, ℕ, ◌+◌, ◌*◌, ◌≤◌, Bool, if◌then◌else◌, not, ◌&&◌, List, [], ◌∷◌, ◌++◌, length, take, drop, Option, ◌==◌, nat_le, nat_lt, slice_index}
 use Rattle.tile.specs.declared.fault.Ground.{Ground}
 use Rattle.tile.specs.declared.fault.Ground.TheVariants.{UnknownRecord, CutShort}
 use Rattle.tile.specs.Answers.{first}
@@ -13,11 +13,11 @@ Known k = (1 ≤ k) × (k ≤ 6)
 
 -- the pixel kind of a pixel record, 0 of any other
 abbrev pub kind_told : ℕ → ℕ
-kind_told k = cond (k == 4) 1 (cond (k == 5) 2 0)
+kind_told k = if k == 4 then 1 else (if k == 5 then 2 else 0)
 
 -- how long a body of kind k is: a pixel record has the four bytes of each word
 abbrev pub body_size : ℕ → ℕ
-body_size k = cond (k == 1) 4 (cond (k == 2) 1 (cond (k == 3) 2 (4 * named_width (kind_told k))))
+body_size k = if k == 1 then 4 else (if k == 2 then 1 else (if k == 3 then 2 else 4 * named_width (kind_told k)))
 
 abbrev pub kind_of : Record → ℕ
 kind_of (Head b) = 1

@@ -1,5 +1,6 @@
 // Whether a record may stand where it stands: each is taken apart, or answered with its ground.
-ghost use Rattle.std.specs.Prelude.{◌≡◌, ◌+◌, ◌*◌, ◌<◌, [], length};
+ghost use Rattle.std.specs.Prelude.{◌≡◌, ◌≢◌, ◌+◌, ◌*◌, ◌<◌, [], length, MatchResult};
+ghost use Rattle.tile.specs.declared.fault.Ground.TheVariants.{OutOfPlace};
 ghost use Rattle.tile.specs.Named.{named_width};
 ghost use Rattle.dump.specs.Records.{body_of, kind_of};
 ghost use Rattle.dump.specs.Phases.{phase};
@@ -27,6 +28,16 @@ fn sized<const N: usize>(body: &[u8]) -> [u8; N]
     ensures { result ≡ body.now }
 {
     <[u8; N]>::try_from(body).unwrap()
+}
+
+// How far the sections have been read; before HEAD and behind END no record of a section may stand.
+fn within(stage: Stage) -> Result<Progress, Ground>
+    ensures { MatchResult result (λ p. stage ≡ Stage.Within p) (λ g. (g ≡ OutOfPlace) × ((p : _) → stage ≢ Stage.Within p)) }
+{
+    match stage {
+        Stage::Within(progress) => Ok(progress),
+        Stage::Start | Stage::Ended(_) => Err(Ground::OutOfPlace),
+    }
 }
 
 // HEAD: ranks, pixels and kind.
@@ -58,9 +69,7 @@ fn at_head(stage: Stage, body: [u8; 4]) -> Result<Stage, Ground>
 fn at_rank(stage: Stage, body: [u8; 1]) -> Result<Stage, Ground>
     ensures { Answers (rank_ground (phase stage) body) (next (phase stage) 2 body) result }
 {
-    let Stage::Within(p) = stage else {
-        return Err(Ground::OutOfPlace);
-    };
+    let p = within(stage)?;
     let [rank] = body;
     let rank = u32::from(rank);
     if rank != p.sections {
@@ -80,9 +89,7 @@ fn at_rank(stage: Stage, body: [u8; 1]) -> Result<Stage, Ground>
 fn at_place(stage: Stage, body: [u8; 2]) -> Result<Stage, Ground>
     ensures { Answers (place_ground (phase stage) body) (next (phase stage) 3 body) result }
 {
-    let Stage::Within(p) = stage else {
-        return Err(Ground::OutOfPlace);
-    };
+    let p = within(stage)?;
     let [high, low] = body;
     let number = half(high, low);
     if p.sections == 0 || number <= p.due {
@@ -98,9 +105,7 @@ fn at_place(stage: Stage, body: [u8; 2]) -> Result<Stage, Ground>
 fn at_end(stage: Stage) -> Result<Stage, Ground>
     ensures { Answers (end_ground (phase stage)) (next (phase stage) 6 []) result }
 {
-    let Stage::Within(p) = stage else {
-        return Err(Ground::OutOfPlace);
-    };
+    let p = within(stage)?;
     if p.sections < p.head.ranks {
         return Err(Ground::WrongRank);
     }
@@ -108,15 +113,12 @@ fn at_end(stage: Stage) -> Result<Stage, Ground>
 }
 
 // A pixel of the kind P.
-// Stays: P may be a kind without a name, so both facts hold of a call and of no type.
 fn at_pixel<P: Pixel>(stage: Stage, body: &[u8]) -> Result<Stage, Ground>
     requires named { 0 < named_width P.Pixel.model.number }
     requires size { length body.now ≡ 4 * named_width P.Pixel.model.number }
     ensures { Answers (pixel_ground P.Pixel.model.number (phase stage) body.now) (onward (phase stage)) result }
 {
-    let Stage::Within(p) = stage else {
-        return Err(Ground::OutOfPlace);
-    };
+    let p = within(stage)?;
     if p.sections == 0 {
         return Err(Ground::OutOfPlace);
     }

@@ -20,7 +20,7 @@ pub(crate) enum RecordKind {
 }
 
 // A record by its kind, with its body as a part of the dump.
-// Stays: bodies as arrays would ask more of whoever makes a record; an item keeps the length.
+// Stays: the variants are public, and bodies as arrays would ask more of whoever makes a record and its size; a record that was read keeps its length in its item.
 #[derive(Clone, Copy)]
 pub enum Record<'a> {
     Head(&'a [u8]),

@@ -53,6 +53,7 @@ pub fn is_blank(body: &[u8]) -> bool
 }
 
 // The words of a body, then zeros.
+// Stays: the reader has no heap, so the words lie in an array as long as the longest pixel, and the body tells how many count.
 fn spelled(body: &[u8]) -> [u32; MOST_WORDS]
     requires { length body.now ≤ 20 }
     ensures size { length result ≡ 5 }

@@ -1,5 +1,5 @@
 -- Opening a delivery, putting pixels, closing and withdrawing. A delivery is a rank and the number of its next pixel. Assumes nothing.
-use Rattle.std.specs.Prelude.{ℕ, ◌+◌, ◌-◌, Bool, cond, not, ◌&&◌, List, [], ◌∷◌, length, ◌==◌, nat_le, nat_lt, slice_index_or}
+use Rattle.std.specs.Prelude.{ℕ, ◌+◌, ◌-◌, Bool, if◌then◌else◌, not, ◌&&◌, List, [], ◌∷◌, length, ◌==◌, nat_le, nat_lt, slice_index_or}
 use Rattle.tile.specs.declared.fault.Ground.{Ground}
 use Rattle.tile.specs.declared.fault.Ground.TheVariants.{Outside, TooShort, NoDelivery}
 use Rattle.tile.specs.Kinds.{Kind}
@@ -15,7 +15,7 @@ expects e n = is_open e.state && e.next == n
 
 -- pixel x of a row once xs is put from pixel n on
 abbrev pub put_row : {X : Type 0} → X → ℕ → List X → (ℕ → X) → ℕ → X
-put_row d n xs row x = cond (nat_le n x && nat_lt x (n + length xs)) (slice_index_or xs (x - n) d) (row x)
+put_row d n xs row x = if nat_le n x && nat_lt x (n + length xs) then slice_index_or xs (x - n) d else row x
 
 module _ {X : Type 0} where
   -- the delivery of rank r at pixel n agrees with the record of its rank
@@ -77,7 +77,7 @@ module _ {X : Type 0} where
 
   -- if the record agrees the state becomes none
   abbrev pub after_withdraw : Machine X → ℕ → ℕ → Machine X
-  after_withdraw S r n = cond (agrees S r n) (with_entry S r (with_delivery (S.entry r) Idle n)) S
+  after_withdraw S r n = if agrees S r n then with_entry S r (with_delivery (S.entry r) Idle n) else S
 
 module _ {X R : Type 0} (K : Kind X R) where
   -- the row is blank and the state open, at pixel 0

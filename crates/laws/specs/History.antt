@@ -1,5 +1,5 @@
 -- What is known of each rank from the calls and their answers alone. Assumes nothing.
-use Rattle.std.specs.Prelude.{◌≡◌, ℕ, suc, ◌-◌, ◌*◌, Bool, true, false, cond, List, [], ◌∷◌, ◌++◌, length, replicate, ◌==◌, slice_index_or}
+use Rattle.std.specs.Prelude.{◌≡◌, ℕ, suc, ◌-◌, ◌*◌, Bool, true, false, if◌then◌else◌, List, [], ◌∷◌, ◌++◌, length, replicate, ◌==◌, slice_index_or}
 use Rattle.tile.specs.Kinds.{Kind}
 use Rattle.plan.specs.Amounts.{group_sizes}
 use Rattle.plan.specs.Model.{PlanModel}
@@ -22,12 +22,12 @@ module _ {X R : Type 0} (K : Kind X R) (p : PlanModel) where
 
   -- what an accepted call makes of the history of rank r
   abbrev pub noted : Call X → ℕ → History X → History X
-  noted (Deliver q) r h = cond (q == r) (record { list = []; closed = false; steps = h.steps }) h
-  noted (Put q n xs) r h = cond (q == r) (record { list = h.list ++ xs; closed = h.closed; steps = h.steps }) h
-  noted (Close q n) r h = cond (q == r) (record { list = h.list ++ replicate (p.pixels - length h.list) K.blank; closed = true; steps = h.steps }) h
+  noted (Deliver q) r h = if q == r then record { list = []; closed = false; steps = h.steps } else h
+  noted (Put q n xs) r h = if q == r then record { list = h.list ++ xs; closed = h.closed; steps = h.steps } else h
+  noted (Close q n) r h = if q == r then record { list = h.list ++ replicate (p.pixels - length h.list) K.blank; closed = true; steps = h.steps } else h
   noted (Withdraw q n) r h = h
   noted (Feed bytes d) r h = fed d r h
-  noted (Step q area) r h = cond (q == r) (record { list = h.list; closed = h.closed; steps = suc h.steps }) h
+  noted (Step q area) r h = if q == r then record { list = h.list; closed = h.closed; steps = suc h.steps } else h
   noted (Show x) r h = h
 
   -- a refused call makes nothing of it

@@ -1,5 +1,5 @@
 -- A merge with its pixels and its link, by rank; and what calls bring. Assumes nothing.
-use Rattle.std.specs.Prelude.{◌≡◌, ℕ, zero, suc, ◌+◌, ◌*◌, ◌<◌, Bool, false, cond, not, ◌||◌, ◌≢◌, List, [], ◌∷◌, ◌==◌, nat_lt}
+use Rattle.std.specs.Prelude.{◌≡◌, ℕ, zero, suc, ◌+◌, ◌*◌, ◌<◌, Bool, false, if◌then◌else◌, not, ◌||◌, ◌≢◌, List, [], ◌∷◌, ◌==◌, nat_lt}
 use Rattle.tile.specs.Kinds.{Kind}
 use Rattle.plan.specs.Model.{PlanModel}
 use Rattle.link.specs.Model.{BoxState}
@@ -55,11 +55,11 @@ join_all K f a (suc n) = K.join (join_all K f a n) (f (a + n))
 
 -- one rank's record changed
 abbrev pub changed_entry : ℕ → RankRecord → (ℕ → RankRecord) → ℕ → RankRecord
-changed_entry r e entries q = cond (q == r) e (entries q)
+changed_entry r e entries q = if q == r then e else entries q
 
 -- one rank's row changed
 abbrev pub changed_row : {X : Type 0} → ℕ → (ℕ → X) → (ℕ → ℕ → X) → ℕ → ℕ → X
-changed_row r row rows q x = cond (q == r) (row x) (rows q x)
+changed_row r row rows q x = if q == r then row x else rows q x
 
 -- a plane has fewer records than so many ranks and pixels need
 abbrev pub short : Planes → ℕ → ℕ → Bool

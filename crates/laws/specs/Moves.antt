@@ -1,5 +1,5 @@
 -- What each slot of a round does. Assumes nothing.
-use Rattle.std.specs.Prelude.{ℕ, suc, ◌+◌, ◌-◌, ◌*◌, Bool, cond, ◌&&◌, ◌||◌, ◌==◌, nat_le, nat_lt}
+use Rattle.std.specs.Prelude.{ℕ, suc, ◌+◌, ◌-◌, ◌*◌, Bool, if◌then◌else◌, ◌&&◌, ◌||◌, ◌==◌, nat_le, nat_lt}
 use Rattle.plan.specs.declared.runs.Run.{Run}
 use Rattle.plan.specs.Model.{PlanModel, piece}
 use Rattle.laws.specs.declared.moves.Move.{Move}
@@ -8,18 +8,16 @@ use Rattle.laws.specs.declared.records.RankRecord.{RankRecord}
 
 -- a piece for a rank: nothing is sent to oneself, and no empty piece
 abbrev pub send_move : ℕ → ℕ → Run → Move
-send_move rank to q = cond (to == rank || q.len == 0) Pass (Send to q)
+send_move rank to q = if to == rank || q.len == 0 then Pass else Send to q
 
 -- a piece from a rank
 abbrev pub take_move : ℕ → ℕ → Run → Move
-take_move rank sender q = cond (q.len == 0) Pass (cond (sender == rank) (Own q) (Take sender q))
+take_move rank sender q = if q.len == 0 then Pass else (if sender == rank then Own q else Take sender q)
 
 -- Going on from round t to a new group g: the first slots send and the others take, members in ascending order.
 abbrev pub move_in : PlanModel → ℕ → ℕ → ℕ → Run → Move
 move_in p t rank s g =
-    cond (nat_lt s g.len)
-    (send_move rank (g.start + s) (piece p t rank (g.start + s)))
-    (take_move rank (g.start + (s - g.len)) (piece p t (g.start + (s - g.len)) rank))
+    if nat_lt s g.len then send_move rank (g.start + s) (piece p t rank (g.start + s)) else take_move rank (g.start + (s - g.len)) (piece p t (g.start + (s - g.len)) rank)
 
 -- the move that is next for a rank
 abbrev pub move_of : PlanModel → ℕ → RankRecord → Move
@@ -45,8 +43,8 @@ abbrev pub advanced : RankRecord → Move → Bool → RankRecord
 advanced e v last = record {
   state = e.state;
   next = e.next;
-  round = cond last (suc e.round) e.round;
-  slot = cond last 0 (suc e.slot);
+  round = if last then suc e.round else e.round;
+  slot = if last then 0 else suc e.slot;
   sent = e.sent + move_sent v;
 }
 

@@ -1,5 +1,5 @@
 -- Showing a pixel of the frame. Assumes nothing.
-use Rattle.std.specs.Prelude.{ℕ, zero, suc, Bool, cond, not, List, [], ◌∷◌, nat_le}
+use Rattle.std.specs.Prelude.{ℕ, zero, suc, Bool, if◌then◌else◌, not, List, [], ◌∷◌, nat_le}
 use Rattle.tile.specs.declared.fault.Ground.{Ground}
 use Rattle.tile.specs.declared.fault.Ground.TheVariants.{Outside, TooShort, Unsuited, Unfinished}
 use Rattle.tile.specs.Faults.{no_rank}
@@ -23,7 +23,7 @@ module _ {X R : Type 0} (K : Kind X R) where
   -- pixel x as the rank below n holds it whose last span has it
   abbrev pub frame_pixel : PlanModel → Machine X → ℕ → ℕ → X
   frame_pixel p S x zero = K.blank
-  frame_pixel p S x (suc r) = cond (has (p.span p.rounds r) x) (S.held r x) (frame_pixel p S x r)
+  frame_pixel p S x (suc r) = if has (p.span p.rounds r) x then S.held r x else frame_pixel p S x r
 
   abbrev pub show_answer : PlanModel → Planes → Machine X → ℕ → Answer X
   show_answer p b S x = judged no_rank (show_grounds p b S x) (Shown (frame_pixel p S x S.ranks))

@@ -1,5 +1,5 @@
 -- One rank's next slot. Assumes nothing.
-use Rattle.std.specs.Prelude.{ℕ, ◌-◌, ◌*◌, Bool, cond, not, ◌||◌, List, [], ◌∷◌, Some, None, Option, nat_le, nat_lt, slice_index_or}
+use Rattle.std.specs.Prelude.{ℕ, ◌-◌, ◌*◌, Bool, if◌then◌else◌, not, ◌||◌, List, [], ◌∷◌, Some, None, Option, nat_le, nat_lt, slice_index_or}
 use Rattle.std.specs.List.{flat_map}
 use Rattle.tile.specs.declared.fault.Fault.TheVariants.{Link, Call}
 use Rattle.tile.specs.declared.fault.Ground.{Ground}
@@ -53,8 +53,8 @@ module _ {X R : Type 0} (K : Kind X R) where
   abbrev pub gathering : Machine X → ℕ → Move → ℕ → X
   gathering S r Pass x = S.gathered r x
   gathering S r (Send to q) x = S.gathered r x
-  gathering S r (Own q) x = cond (has q x) (K.join (S.gathered r x) (S.held r x)) (S.gathered r x)
-  gathering S r (Take sender q) x = cond (has q x) (K.join (S.gathered r x) (slice_index_or (taken q.len (S.box sender r)) (x - q.start) K.blank)) (S.gathered r x)
+  gathering S r (Own q) x = if has q x then K.join (S.gathered r x) (S.held r x) else S.gathered r x
+  gathering S r (Take sender q) x = if has q x then K.join (S.gathered r x) (slice_index_or (taken q.len (S.box sender r)) (x - q.start) K.blank) else S.gathered r x
 
   -- the boxes after a move: a message is put into its box, or the box is cleared
   abbrev pub move_box : Machine X → ℕ → Move → ℕ → ℕ → BoxState
@@ -79,10 +79,10 @@ module _ {X R : Type 0} (K : Kind X R) where
 
     -- rank r's rows after a step: the last take of a round makes the gathered row the held one, and blanks it
     abbrev pub held_after : Machine X → ℕ → ℕ → X
-    held_after S r x = cond (is_last b.plan r (S.entry r)) (gathering S r (move_of b.plan r (S.entry r)) x) (S.held r x)
+    held_after S r x = if is_last b.plan r (S.entry r) then gathering S r (move_of b.plan r (S.entry r)) x else S.held r x
 
     abbrev pub gathered_after : Machine X → ℕ → ℕ → X
-    gathered_after S r x = cond (is_last b.plan r (S.entry r)) K.blank (gathering S r (move_of b.plan r (S.entry r)) x)
+    gathered_after S r x = if is_last b.plan r (S.entry r) then K.blank else gathering S r (move_of b.plan r (S.entry r)) x
 
     abbrev pub after_step : Machine X → ℕ → Machine X
     after_step S r = record {

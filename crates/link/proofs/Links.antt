@@ -1,5 +1,5 @@
 -- What the contracts of the calls give, at any link. Assumes nothing.
-use Rattle.std.proofs.Common.{◌≡◌, ℕ, ◌≤◌, Bool, true, false, cond, ltb, List, length, Some, None, Ok, Err, Option, refl, ap, ◌∙◌, arith}
+use Rattle.std.proofs.Common.{◌≡◌, ℕ, ◌≤◌, Bool, true, false, if◌then◌else◌, ltb, List, length, Some, None, Ok, Err, Option, refl, ap, ◌∙◌, arith}
 use mathlib.Core.Path.{fun_ext}
 use Rattle.std.proofs.lemmas.Bool.{le-ltb, not-false}
 use Rattle.std.proofs.lemmas.Bool.Decides.{nat_tests}
@@ -26,17 +26,17 @@ module _ {A F : Type 0} (o : Option F) (a : A) where
     where
       at : (o : Option F) → Ok x ≡ answered o a → (o ≡ None) × (x ≡ a)
       at None e = (refl, cc)
-      at (Some f) e = let z : ◌≡◌ {A = ℕ} 0 1 = cc in absurd (omega arith)
+      at (Some f) e = absurd cc
 
   pub refused : (f : F) → Err f ≡ answered o a → o ≡ Some f
   refused f e = at o e
     where
       at : (o : Option F) → Err f ≡ answered o a → o ≡ Some f
-      at None e = let z : ◌≡◌ {A = ℕ} 0 1 = cc in absurd (omega arith)
+      at None e = absurd cc
       at (Some g) e = cc
 
-first-none : {F : Type 0} (test : Bool) (f : F) (rest : Option F) → cond test (Some f) rest ≡ None → (test ≡ false) × (rest ≡ None)
-first-none true f rest h = let z : ◌≡◌ {A = ℕ} 0 1 = cc in absurd (omega arith)
+first-none : {F : Type 0} (test : Bool) (f : F) (rest : Option F) → (if test then Some f else rest) ≡ None → (test ≡ false) × (rest ≡ None)
+first-none true f rest h = absurd cc
 first-none false f rest h = (refl, h)
 
 -- no fault is for a message to an empty box of a pair

@@ -1,5 +1,5 @@
 -- What the trimmed form keeps of a message, and what the layer keeps of the link below. Assumes nothing.
-use Rattle.std.proofs.Common.{◌≡◌, ℕ, eqb, reverse, ◌+◌, ◌-◌, ◌<◌, ◌≤◌, max, Bool, true, false, cond, ltb, ◌⊎◌, List, [], ◌∷◌, ◌++◌, length, get_or, take, drop, set, replicate, sym, refl, ap, ◌∙◌, ⊎_elim, arith, length-set, rules}
+use Rattle.std.proofs.Common.{◌≡◌, ℕ, eqb, reverse, ◌+◌, ◌-◌, ◌<◌, ◌≤◌, max, Bool, true, false, if◌then◌else◌, ltb, ◌⊎◌, List, [], ◌∷◌, ◌++◌, length, get_or, take, drop, set, replicate, sym, refl, ap, ◌∙◌, ⊎_elim, arith, length-set, rules}
 use borrow.Rule.Slice.PartMut.{put_mid}
 use Rattle.std.proofs.lemmas.Slice.{take-put_mid}
 use Rattle.std.proofs.lemmas.List.Sums.{prefix_len-le-length, prefix_len_passes, prefix_len_stops}
@@ -94,7 +94,7 @@ trimmed-form l ws few fits =
     grind (arith, nat_tests)
 
 -- the words of the message that a form stands for
-pub spread_at : (count lead : ℕ) (mid : List ℕ) (k : ℕ) → k < count → lead + length mid ≤ count → get_or (spread count lead mid) k 0 ≡ cond (ltb k lead) 0 (cond (ltb k (lead + length mid)) (get_or mid (k - lead) 0) 0)
+pub spread_at : (count lead : ℕ) (mid : List ℕ) (k : ℕ) → k < count → lead + length mid ≤ count → get_or (spread count lead mid) k 0 ≡ (if ltb k lead then 0 else (if ltb k (lead + length mid) then get_or mid (k - lead) 0 else 0))
 spread_at count lead mid k h fits = grind (arith, nat_tests, places)
 
 spread-trimmed : (ws : List ℕ) → spread (length ws) (leading ws) (middle ws) ≡ ws
@@ -142,7 +142,7 @@ module _ (l count zeros : ℕ) (inner : List ℕ) (form : has_form l count zeros
   whole_length : length whole ≡ count
   whole_length = length-spread count zeros inner fits
 
-  whole-at : (k : ℕ) → get_or whole k 0 ≡ cond (ltb k zeros) 0 (cond (ltb k (zeros + length inner)) (get_or inner (k - zeros) 0) 0)
+  whole-at : (k : ℕ) → get_or whole k 0 ≡ (if ltb k zeros then 0 else (if ltb k (zeros + length inner) then get_or inner (k - zeros) 0 else 0))
   whole-at k = ⊎_elim
       (λ (u : k < count). spread_at count zeros inner k u fits)
       (λ (u : count ≤ k). let n = whole_length in let f = fits in get_or_past whole k 0 (omega arith) ∙ grind (arith, nat_tests))
@@ -188,12 +188,12 @@ module _ (l count zeros : ℕ) (inner : List ℕ) (form : has_form l count zeros
   parts-back = let n = whole_length in let z = zeros_lead in let m = inner_middle in cc
 
 pub only-form : (l : ℕ) (form ws : List ℕ) → untrimmed l form ≡ Holds ws → form ≡ trimmed ws
-only-form l [] ws h = let z : ◌≡◌ {A = ℕ} 0 1 = cc in absurd (omega arith)
-only-form l (x ∷ []) ws h = let z : ◌≡◌ {A = ℕ} 0 1 = cc in absurd (omega arith)
+only-form l [] ws h = absurd cc
+only-form l (x ∷ []) ws h = absurd cc
 only-form l (count ∷ zeros ∷ inner) ws h = at (has_form l count zeros inner) refl h
   where
-    at : (t : Bool) → has_form l count zeros inner ≡ t → cond t (Holds (spread count zeros inner)) Spoilt ≡ Holds ws → count ∷ zeros ∷ inner ≡ trimmed ws
-    at false e q = let z : ◌≡◌ {A = ℕ} 0 1 = cc in absurd (omega arith)
+    at : (t : Bool) → has_form l count zeros inner ≡ t → (if t then Holds (spread count zeros inner) else Spoilt) ≡ Holds ws → count ∷ zeros ∷ inner ≡ trimmed ws
+    at false e q = absurd cc
     at true e q = let same : spread count zeros inner ≡ ws = cc in parts-back l count zeros inner e ∙ ap trimmed same
 
 first_two : (out : List ℕ) (x y : ℕ) → 2 ≤ length out → take 2 (set (set out 0 x) 1 y) ≡ x ∷ y ∷ []

@@ -1,5 +1,5 @@
 -- What a link holds: its ranks, its longest message, and a box for each ordered pair of ranks. Assumes nothing.
-use Rattle.std.specs.Prelude.{ℕ, ◌≤◌, Bool, true, false, cond, not, ◌&&◌, List, [], length, ◌==◌, nat_lt}
+use Rattle.std.specs.Prelude.{ℕ, ◌≤◌, Bool, true, false, if◌then◌else◌, not, ◌&&◌, List, [], length, ◌==◌, nat_lt}
 use Rattle.tile.specs.Words.{AreWords}
 
 -- what a box may be
@@ -48,7 +48,7 @@ is_pair ranks from to = (nat_lt from ranks && nat_lt to ranks) && not (from == t
 
 -- the boxes with that of one pair changed
 abbrev pub changed : (ℕ → ℕ → BoxState) → ℕ → ℕ → BoxState → ℕ → ℕ → BoxState
-changed boxes from to b i j = cond (i == from && j == to) b (boxes i j)
+changed boxes from to b i j = if i == from && j == to then b else boxes i j
 
 -- the link with the box of one pair changed
 abbrev pub put : LinkModel → ℕ → ℕ → BoxState → LinkModel

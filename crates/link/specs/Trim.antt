@@ -1,7 +1,7 @@
 -- The trimmed form of a message: its word count, the count of leading zero words, and the words from the first to the
 -- last that is not zero. Assumes nothing.
 use Rattle.std.specs.List.{prefix_len, suffix_len}
-use Rattle.std.specs.Prelude.{◌≡◌, ℕ, ◌+◌, ◌-◌, ◌≤◌, Bool, cond, not, ◌&&◌, List, [], ◌∷◌, ◌++◌, length, take, drop, replicate, Some, None, Option, ◌==◌, nat_le, slice_index}
+use Rattle.std.specs.Prelude.{◌≡◌, ℕ, ◌+◌, ◌-◌, ◌≤◌, Bool, if◌then◌else◌, not, ◌&&◌, List, [], ◌∷◌, ◌++◌, length, take, drop, replicate, Some, None, Option, ◌==◌, nat_le, slice_index}
 use Rattle.link.specs.Calls.{is_length, filled_with}
 use Rattle.link.specs.Model.{LinkModel, BoxState, Empty, Holds, Spoilt}
 
@@ -29,7 +29,7 @@ trimmed ws = length ws ∷ leading ws ∷ middle ws
 abbrev pub has_form : ℕ → ℕ → ℕ → List ℕ → Bool
 has_form longest count zeros inner =
     (is_length longest count && nat_le (zeros + length inner) count)
-    && cond (length inner == 0) (zeros == count) (not (slice_index inner 0 == 0) && not (slice_index inner (length inner - 1) == 0))
+    && (if length inner == 0 then zeros == count else not (slice_index inner 0 == 0) && not (slice_index inner (length inner - 1) == 0))
 
 -- the message of these parts
 abbrev pub spread : ℕ → ℕ → List ℕ → List ℕ
@@ -39,7 +39,7 @@ spread count zeros inner = replicate zeros 0 ++ (inner ++ replicate (count - (ze
 abbrev pub untrimmed : ℕ → List ℕ → BoxState
 untrimmed longest [] = Spoilt
 untrimmed longest (count ∷ []) = Spoilt
-untrimmed longest (count ∷ zeros ∷ inner) = cond (has_form longest count zeros inner) (Holds (spread count zeros inner)) Spoilt
+untrimmed longest (count ∷ zeros ∷ inner) = if has_form longest count zeros inner then Holds (spread count zeros inner) else Spoilt
 
 -- a box of the layer, from the box below
 abbrev pub trim_box : ℕ → BoxState → BoxState

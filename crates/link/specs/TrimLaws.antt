@@ -1,5 +1,5 @@
 -- The layer keeps the laws of a link. Assumes nothing.
-use Rattle.std.proofs.Common.{◌≡◌, ℕ, suc, ◌+◌, ◌-◌, ◌≤◌, Bool, true, false, cond, List, [], ◌∷◌, length, replicate, refl, arith}
+use Rattle.std.proofs.Common.{◌≡◌, ℕ, suc, ◌+◌, ◌-◌, ◌≤◌, Bool, true, false, if◌then◌else◌, List, [], ◌∷◌, length, replicate, refl, arith}
 use Rattle.std.proofs.lemmas.List.{length-append, length-replicate}
 use Rattle.std.proofs.lemmas.Bool.Decides.{nat_tests}
 use Rattle.link.specs.Model.{LinkModel, BoxState, Empty, Holds, Spoilt, Allowed, LinkLaws}
@@ -23,7 +23,7 @@ trim_allowed l below (Holds []) h = tt
 trim_allowed l below (Holds (x ∷ [])) h = tt
 trim_allowed l below (Holds (count ∷ lead ∷ mid)) h = at (has_form l count lead mid) refl
   where
-    at : (t : Bool) → has_form l count lead mid ≡ t → Allowed l (cond t (Holds (spread count lead mid)) Spoilt)
+    at : (t : Bool) → has_form l count lead mid ≡ t → Allowed l (if t then Holds (spread count lead mid) else Spoilt)
     at false e = tt
     at true e =
         let fits : lead + length mid ≤ count = grind (arith, nat_tests) in

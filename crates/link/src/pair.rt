@@ -1,7 +1,6 @@
 // What every link tests and answers in the same way.
-ghost use Rattle.std.specs.Prelude.{◌≡◌, cond, not};
+ghost use Rattle.std.specs.Prelude.{◌≡◌, Ok, Err, if◌then◌else◌};
 ghost use Rattle.tile.specs.declared.fault.Fault.TheVariants.{Link as LinkFault};
-ghost use Rattle.tile.specs.Answers.{first, answered};
 ghost use Rattle.link.specs.Calls.{is_length};
 ghost use Rattle.link.specs.Model.{is_pair};
 
@@ -34,7 +33,7 @@ impl Pair {
 
     // Refuses a call on this ground unless `holds`.
     pub fn require(self, holds: bool, cause: Ground) -> Result<(), Fault>
-        ensures { result ≡ cond holds (Ok tt) (Err (LinkFault cause self.to)) }
+        ensures { result ≡ (if holds then Ok tt else Err (LinkFault cause self.to)) }
     {
         holds.then_some(()).ok_or(self.fault(cause))
     }

@@ -9,6 +9,7 @@ use super::zeros::{read_trimmed, write_trimmed};
 use tile::fault::{Fault, Ground};
 
 // A link over `below`; the scratch memory has room for the longest message of any link.
+// Stays: a layer has no heap, so its scratch memory is an array that is filled as far as a message goes.
 #[derive(Drop)]
 pub struct Trim<'a, B: Link> {
     below: &'a mut B,

@@ -3,9 +3,11 @@
 
 use commands::links::link_lines;
 use std::io;
-use std::io::BufReader;
+use std::io::{BufReader, LineWriter};
 
 fn main(rt: HostRuntime) -> anyhow::Result<()> {
-    let input = BufReader::new(rt.alloc(), rt.stdin())?;
-    link_lines(rt.alloc(), input, &mut io::writer(&rt))
+    let heap = rt.alloc();
+    let input = BufReader::new(heap, rt.stdin())?;
+    let mut output = LineWriter::new(heap, io::writer(&rt))?;
+    link_lines(heap, input, &mut output)
 }

@@ -1,5 +1,5 @@
 -- The transfers in order are a transfer list, and none is shorter.
-use Rattle.std.proofs.Common.{◌≡◌, ℕ, zero, suc, ◌+◌, ◌-◌, ◌<◌, ◌≤◌, Bool, true, false, cond, eqb, List, [], ◌∷◌, ◌++◌, length, take, drop, sym, refl, ap, ◌∙◌, subst, ⊎_elim, arith}
+use Rattle.std.proofs.Common.{◌≡◌, ℕ, zero, suc, ◌+◌, ◌-◌, ◌<◌, ◌≤◌, Bool, true, false, if◌then◌else◌, eqb, List, [], ◌∷◌, ◌++◌, length, take, drop, sym, refl, ap, ◌∙◌, subst, ⊎_elim, arith}
 use Rattle.std.proofs.lemmas.Bool.{eqb-false}
 use Rattle.std.proofs.lemmas.List.Elements.{All-nil, All-cons, All-append, All-weaker, All-contains, All-from_recursion, recursion_from_All, Contains-append_left, Contains-append_right, Contains-append_cases}
 use Rattle.std.proofs.lemmas.Map.Made.{Contains-tail}
@@ -49,11 +49,11 @@ module _ (key : Transfer → ℕ) (g : ℕ → List Transfer) (x : Transfer) whe
 
 module _ (m : PlanModel) where
   module _ (P : Transfer → Type 0) (t f r : ℕ) (h : (f ≡ r → ⊥) → ((transfer_of m t f r).piece.len ≡ 0 → ⊥) → P (transfer_of m t f r)) where
-    some : (b : Bool) → (f ≡ r → ⊥) → eqb (transfer_of m t f r).piece.len 0 ≡ b → All P (cond b [] (transfer_of m t f r ∷ []))
+    some : (b : Bool) → (f ≡ r → ⊥) → eqb (transfer_of m t f r).piece.len 0 ≡ b → All P (if b then [] else transfer_of m t f r ∷ [])
     some true ne e = All-nil P
     some false ne e = All-cons P (transfer_of m t f r) [] (h ne (eqb-false (transfer_of m t f r).piece.len 0 e)) (All-nil P)
 
-    other : (b : Bool) → eqb f r ≡ b → All P (cond b [] (cond (eqb (transfer_of m t f r).piece.len 0) [] (transfer_of m t f r ∷ [])))
+    other : (b : Bool) → eqb f r ≡ b → All P (if b then [] else (if eqb (transfer_of m t f r).piece.len 0 then [] else transfer_of m t f r ∷ []))
     other true e = All-nil P
     other false e = some (eqb (transfer_of m t f r).piece.len 0) (eqb-false f r e) refl
 

@@ -1,5 +1,5 @@
 -- Sums and counts: the pixels that a rank sends in a round.
-use Rattle.std.proofs.Common.{◌≡◌, ℕ, zero, suc, ◌+◌, ◌-◌, ◌*◌, ◌<◌, ◌≤◌, min, cond, not, ◌&&◌, eqb, Ok, sym, refl, ap, ◌∙◌, subst, ap₂, ⊎_elim, arith}
+use Rattle.std.proofs.Common.{◌≡◌, ℕ, zero, suc, ◌+◌, ◌-◌, ◌*◌, ◌<◌, ◌≤◌, min, if◌then◌else◌, not, ◌&&◌, eqb, Ok, sym, refl, ap, ◌∙◌, subst, ap₂, ⊎_elim, arith}
 use Rattle.std.proofs.lemmas.Bool.{cases_eq, cond-true, cond-false, eq-eqb, ne_eqb}
 use Rattle.plan.specs.declared.runs.Run.{Run}
 use Rattle.plan.specs.Amounts.{sum_below, count_below, leaving, sent_to, PiecesAreLeft}
@@ -52,7 +52,7 @@ module _ (p : PlanModel) where
 
   -- the same at one position
   abbrev sends_at : ℕ → ℕ → ℕ → ℕ → ℕ
-  sends_at r t i x = cond (eqb ((p.group (suc t) r).start + i) r) 0 (cond (has (piece p t r ((p.group (suc t) r).start + i)) x) 1 0)
+  sends_at r t i x = if eqb ((p.group (suc t) r).start + i) r then 0 else (if has (piece p t r ((p.group (suc t) r).start + i)) x then 1 else 0)
 
   sends-counted : (r t i : ℕ) → t < p.rounds → r < p.ranks → i < (p.group (suc t) r).len → sends r t i ≡ sum_below (sends_at r t i) p.pixels
   sends-counted r t i ht hr hi =
@@ -65,10 +65,10 @@ module _ (p : PlanModel) where
       (λ e.
       cond-false (eqb m r) _ _ (ne_eqb m r e)
       ∙ (let c = count_range (piece p t r m) p.pixels in let d : (piece p t r m).len ≡ count_below (has (piece p t r m)) p.pixels = omega arith in d)
-      ∙ sym (sum_same (sends_at r t i) (λ x. cond (has (piece p t r m) x) 1 0) p.pixels (λ k u. cond-false (eqb m r) _ _ (ne_eqb m r e))))
+      ∙ sym (sum_same (sends_at r t i) (λ x. if has (piece p t r m) x then 1 else 0) p.pixels (λ k u. cond-false (eqb m r) _ _ (ne_eqb m r e))))
       (cases_eq m r)
 
-  leaves_at : (r t x : ℕ) → t < p.rounds → r < p.ranks → x < p.pixels → sum_below (λ i. sends_at r t i x) (p.group (suc t) r).len ≡ cond (has (p.span t r) x && not (has (p.span (suc t) r) x)) 1 0
+  leaves_at : (r t x : ℕ) → t < p.rounds → r < p.ranks → x < p.pixels → sum_below (λ i. sends_at r t i x) (p.group (suc t) r).len ≡ (if has (p.span t r) x && not (has (p.span (suc t) r) x) then 1 else 0)
   leaves_at r t x ht hr hx =
       let g : Run = p.group (suc t) r in
       let o = p.one_holder (suc t) r x (omega arith) hr hx in
@@ -108,7 +108,7 @@ module _ (p : PlanModel) where
   sends-leaving r t ht hr =
       sum_same (sends r t) (λ i. sum_below (sends_at r t i) p.pixels) (p.group (suc t) r).len (λ i hi. sends-counted r t i ht hr hi)
       ∙ sum_swap (sends_at r t) (p.group (suc t) r).len p.pixels
-      ∙ sum_same (λ x. sum_below (λ i. sends_at r t i x) (p.group (suc t) r).len) (λ x. cond (has (p.span t r) x && not (has (p.span (suc t) r) x)) 1 0) p.pixels (λ x hx. leaves_at r t x ht hr hx)
+      ∙ sum_same (λ x. sum_below (λ i. sends_at r t i x) (p.group (suc t) r).len) (λ x. if has (p.span t r) x && not (has (p.span (suc t) r) x) then 1 else 0) p.pixels (λ x hx. leaves_at r t x ht hr hx)
 
   -- what goes to another member was in the old span and is not in the new one
   outside_new : (t f : ℕ) → t < p.rounds → f < p.ranks → (m x : ℕ) → In (p.group (suc t) f) m → (m ≡ f → ⊥) → In (piece p t f m) x → In (p.span t f) x × (In (p.span (suc t) f) x → ⊥)
@@ -128,7 +128,7 @@ pub pieces_are_left : PiecesAreLeft
 pieces_are_left p t f ht hf = record { outside_new = outside_new p t f ht hf; covered = covered p t f ht hf; counted = sends-leaving p f t ht hf }
 
 -- a position of run a lies in run b too or in a alone
-parted : (a b : Run) (x : ℕ) → cond (has a x && not (has b x)) 1 0 + cond (has (common a b) x) 1 0 ≡ cond (has a x) 1 0
+parted : (a b : Run) (x : ℕ) → (if has a x && not (has b x) then 1 else 0) + (if has (common a b) x then 1 else 0) ≡ (if has a x then 1 else 0)
 parted a b x =
     ⊎_elim
     (λ (i : In a x).
@@ -144,7 +144,7 @@ without : (a b : Run) (n : ℕ) → a.start + a.len ≤ n → count_below (λ x.
 without a b n h =
     let all = count_range a n in
     let both = count_range (common a b) n in
-    let sum = sym (sum_add (λ x. cond (has a x && not (has b x)) 1 0) (λ x. cond (has (common a b) x) 1 0) n) ∙ sum_same (λ x. cond (has a x && not (has b x)) 1 0 + cond (has (common a b) x) 1 0) (λ x. cond (has a x) 1 0) n (λ x u. parted a b x) in
+    let sum = sym (sum_add (λ x. if has a x && not (has b x) then 1 else 0) (λ x. if has (common a b) x then 1 else 0) n) ∙ sum_same (λ x. (if has a x && not (has b x) then 1 else 0) + (if has (common a b) x then 1 else 0)) (λ x. if has a x then 1 else 0) n (λ x u. parted a b x) in
     omega arith
 
 pub leaving-is : (p : PlanModel) (r t : ℕ) → t < p.rounds → r < p.ranks → leaving p r t ≡ (p.span t r).len - (piece p t r r).len

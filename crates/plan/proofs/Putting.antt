@@ -1,5 +1,5 @@
 -- Writing one list of transfers after another.
-use Rattle.std.proofs.Common.{◌≡◌, ℕ, zero, suc, ◌+◌, ◌-◌, ◌*◌, ◌<◌, ◌≤◌, true, false, cond, eqb, List, [], ◌∷◌, ◌++◌, length, take, drop, sym, refl, ap, ◌∙◌, subst, add-mul, add-one, arith, ne_eqb}
+use Rattle.std.proofs.Common.{◌≡◌, ℕ, zero, suc, ◌+◌, ◌-◌, ◌*◌, ◌<◌, ◌≤◌, true, false, if◌then◌else◌, eqb, List, [], ◌∷◌, ◌++◌, length, take, drop, sym, refl, ap, ◌∙◌, subst, add-mul, add-one, arith, ne_eqb}
 use Rattle.std.proofs.lemmas.List.{append-nil, append_assoc, length-append, drop-drop}
 use Rattle.plan.specs.declared.listing.Listing.{Listing}
 use Rattle.plan.specs.declared.transfer.Transfer.{Transfer}
@@ -55,9 +55,9 @@ module _ (m : PlanModel) (t : ℕ) where
 
   pub between-short : (f r : ℕ) → length (between m t f r) ≤ 1
   between-short f r =
-      elim (eqb f r) as (λ b. length (cond b [] (cond (eqb (transfer_of m t f r).piece.len 0) [] (transfer_of m t f r ∷ []))) ≤ 1) [
+      elim (eqb f r) as (λ b. length (if b then [] else (if eqb (transfer_of m t f r).piece.len 0 then [] else transfer_of m t f r ∷ [])) ≤ 1) [
         | true ↦ omega arith
-        | false ↦ elim (eqb (transfer_of m t f r).piece.len 0) as (λ b. length (cond b [] (transfer_of m t f r ∷ [])) ≤ 1) [ true ↦ omega arith | false ↦ omega arith ]
+        | false ↦ elim (eqb (transfer_of m t f r).piece.len 0) as (λ b. length (if b then [] else transfer_of m t f r ∷ []) ≤ 1) [ true ↦ omega arith | false ↦ omega arith ]
       ]
 
   module _ (before : t < m.rounds) where

@@ -1,5 +1,5 @@
 -- Sums over a plan's rounds: the sizes of a rank's groups, and the pixels that it sends. Assumes nothing.
-use Rattle.std.specs.Prelude.{◌≡◌, ℕ, zero, suc, ◌+◌, ◌<◌, Bool, cond, not, ◌&&◌, ◌==◌, ◌≢◌}
+use Rattle.std.specs.Prelude.{◌≡◌, ℕ, zero, suc, ◌+◌, ◌<◌, Bool, if◌then◌else◌, not, ◌&&◌, ◌==◌, ◌≢◌}
 use Rattle.plan.specs.Model.{PlanModel, piece}
 use Rattle.plan.specs.Runs.{In, has}
 
@@ -10,7 +10,7 @@ sum_below f (suc n) = sum_below f n + f n
 
 -- how many numbers below n pass the test
 abbrev pub count_below : (ℕ → Bool) → ℕ → ℕ
-count_below f n = sum_below (λ k. cond (f k) 1 0) n
+count_below f n = sum_below (λ k. if f k then 1 else 0) n
 
 -- the sum of the sizes of a rank's groups, round 0 left out
 abbrev pub group_sizes : PlanModel → ℕ → ℕ
@@ -26,7 +26,7 @@ sent p r = sum_below (leaving p r) p.rounds
 
 -- how many pixels rank f sends to rank m, going on from round t; none to itself
 abbrev pub sent_to : PlanModel → ℕ → ℕ → ℕ → ℕ
-sent_to p t f m = cond (m == f) 0 (piece p t f m).len
+sent_to p t f m = if m == f then 0 else (piece p t f m).len
 
 -- what rank f sends, going on from round t, is what is left of its old span outside the new one
 pub record IsLeft (p : PlanModel) (t f : ℕ) : Type 0 where

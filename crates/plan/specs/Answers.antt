@@ -1,5 +1,5 @@
 -- What a plan's queries answer. Assumes nothing.
-use Rattle.std.specs.Prelude.{ℕ, suc, min, cond, Ok, Err, Result, nat_lt}
+use Rattle.std.specs.Prelude.{ℕ, suc, min, if◌then◌else◌, Ok, Err, Result, nat_lt}
 use Rattle.tile.specs.declared.fault.Fault.{Fault}
 use Rattle.tile.specs.declared.fault.Fault.TheVariants.{Call}
 use Rattle.tile.specs.declared.fault.Ground.TheVariants.{Outside}
@@ -17,7 +17,7 @@ outside rank = Call Outside rank
 
 -- the answer about a rank of the plan; any other rank is refused
 abbrev pub asked : {A : Type 0} → PlanModel → ℕ → Result A Fault → Result A Fault
-asked p rank answer = cond (nat_lt rank p.ranks) answer (Err (outside rank))
+asked p rank answer = if nat_lt rank p.ranks then answer else Err (outside rank)
 
 -- what is told of a rank
 abbrev pub told : {A : Type 0} → PlanModel → ℕ → A → Result A Fault

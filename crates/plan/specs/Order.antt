@@ -1,5 +1,5 @@
 -- All transfers in the order in which they are written, and how they are written into an area. Assumes nothing.
-use Rattle.std.specs.Prelude.{◌≡◌, ℕ, zero, suc, ◌+◌, ◌≤◌, cond, List, [], ◌∷◌, ◌++◌, length, take, drop, ◌==◌}
+use Rattle.std.specs.Prelude.{◌≡◌, ℕ, zero, suc, ◌+◌, ◌≤◌, if◌then◌else◌, List, [], ◌∷◌, ◌++◌, length, take, drop, ◌==◌}
 use Rattle.plan.specs.declared.listing.Listing.{Listing}
 use Rattle.plan.specs.declared.transfer.Transfer.{Transfer}
 use Rattle.plan.specs.Model.{PlanModel}
@@ -12,7 +12,7 @@ up_to g (suc n) = up_to g n ++ g n
 
 -- the transfer from rank f to rank r, if there is one
 abbrev pub between : PlanModel → ℕ → ℕ → ℕ → List Transfer
-between p t f r = cond (f == r) [] (cond ((transfer_of p t f r).piece.len == 0) [] (transfer_of p t f r ∷ []))
+between p t f r = if f == r then [] else (if (transfer_of p t f r).piece.len == 0 then [] else transfer_of p t f r ∷ [])
 
 -- to member i of rank f's new group
 abbrev pub to_place : PlanModel → ℕ → ℕ → ℕ → List Transfer

@@ -1,12 +1,12 @@
 -- The groups and spans of the 2-3 plan. Assumes nothing.
-use Rattle.std.specs.Prelude.{ℕ, zero, suc, ◌+◌, ◌-◌, ◌*◌, ◌/◌, ◌^◌, min, cond, ◌==◌, nat_le}
+use Rattle.std.specs.Prelude.{ℕ, zero, suc, ◌+◌, ◌-◌, ◌*◌, ◌/◌, ◌^◌, min, if◌then◌else◌, ◌==◌, nat_le}
 use Rattle.plan.specs.declared.runs.Run.{Run}
 use Rattle.plan.specs.Runs.{run_of, share}
 
 -- the largest t up to n with 2 ^ t at most R
 abbrev pub top : ℕ → ℕ → ℕ
 top zero R = 0
-top (suc n) R = cond (nat_le (2 ^ suc n) R) (suc n) (top n R)
+top (suc n) R = if nat_le (2 ^ suc n) R then suc n else top n R
 
 -- which group rank r is in, if R ranks are cut into groups of w and the last one has what is left over too
 abbrev pub index : ℕ → ℕ → ℕ → ℕ
@@ -18,7 +18,7 @@ start R w r = index R w r * w
 
 -- how many ranks it has: the last group runs to the last rank
 abbrev pub size : ℕ → ℕ → ℕ → ℕ
-size R w r = cond (index R w r + 1 == R / w) (R - start R w r) w
+size R w r = if index R w r + 1 == R / w then R - start R w r else w
 
 -- the group itself
 abbrev pub group_by : ℕ → ℕ → ℕ → Run

@@ -1,5 +1,5 @@
 -- The 2-3 plan keeps the five rules. Assumes nothing.
-use Rattle.std.specs.Prelude.{◌≡◌, ℕ, zero, suc, ◌+◌, ◌-◌, ◌*◌, ◌/◌, ◌^◌, ◌<◌, ◌≤◌, cond, ◌==◌}
+use Rattle.std.specs.Prelude.{◌≡◌, ℕ, zero, suc, ◌+◌, ◌-◌, ◌*◌, ◌/◌, ◌^◌, ◌<◌, ◌≤◌, if◌then◌else◌, ◌==◌}
 use Rattle.std.proofs.Common.{sym, ap, ap₂, subst, ◌∙◌, ⊎_elim, arith, le-div_iff_mul-le, div-mul-le_self, mul-le-mul_right, div-one, mul-one, add-mul, mul_assoc, mul_comm, pow-suc, zero-mul, pow_pos, pow_mono, eq-eqb, ne_eqb, le-leb}
 use Rattle.std.proofs.Math.Nat.{lt-div-mul-add, div-eq_of_lt-le, div-div-eq-div-mul, min-le_left}
 use Rattle.std.proofs.lemmas.Bool.{lt-leb, cases_lt}
@@ -182,7 +182,7 @@ module _ (R P : ℕ) (limits : (1 ≤ R) × (R ≤ 32)) where
     pub same : (q : ℕ) → In (group R t r) q → ((group R t q).start ≡ (group R t r).start) × ((group R t q).len ≡ (group R t r).len)
     same q k =
         let e = same_index R (2 ^ t) (pow_pos t) (width_le t le) r q k in
-        (ap (λ i. i * 2 ^ t) e, ap (λ i. cond (i + 1 == R / 2 ^ t) (R - i * 2 ^ t) (2 ^ t)) e)
+        (ap (λ i. i * 2 ^ t) e, ap (λ i. if i + 1 == R / 2 ^ t then R - i * 2 ^ t else 2 ^ t) e)
 
     pub holds : (x : ℕ) → x < P → In (group R t r) (holder t r x) × In (span R P t (holder t r x)) x
     holds x k =

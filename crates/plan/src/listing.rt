@@ -14,7 +14,7 @@ pub(crate) struct Listing<'a> {
 
 impl Listing<'_> {
     // Puts the transfer behind the earlier ones, if the area has room.
-    // Stays: this and its callers each ask that another number of transfers can still be counted, which no one fact of the type says.
+    // Stays: this and its callers ask for room for 1, 32 and 1,024 more transfers to be counted, so no one fact of the type says it.
     pub(crate) fn put(&mut self, transfer: Transfer)
         requires { self.old.count < 32768 }
         ensures { Adds (transfer ∷ []) self.old self.new }

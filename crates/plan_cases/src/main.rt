@@ -3,9 +3,11 @@
 
 use commands::plans::plan_lines;
 use std::io;
-use std::io::BufReader;
+use std::io::{BufReader, LineWriter};
 
 fn main(rt: HostRuntime) -> anyhow::Result<()> {
-    let input = BufReader::new(rt.alloc(), rt.stdin())?;
-    plan_lines(rt.alloc(), input, &mut io::writer(&rt))
+    let heap = rt.alloc();
+    let input = BufReader::new(heap, rt.stdin())?;
+    let mut output = LineWriter::new(heap, io::writer(&rt))?;
+    plan_lines(heap, input, &mut output)
 }

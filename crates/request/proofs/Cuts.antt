@@ -1,5 +1,5 @@
 -- Words cut off one by one. Assumes nothing.
-use Rattle.std.proofs.Common.{◌≡◌, ℕ, suc, ◌+◌, ◌-◌, ◌<◌, ◌≤◌, true, false, cond, not, List, [], ◌∷◌, length, get_or, take, drop, position, Some, None, sym, refl, ap, ◌∙◌, subst, ⊎_elim, arith, length-drop}
+use Rattle.std.proofs.Common.{◌≡◌, ℕ, suc, ◌+◌, ◌-◌, ◌<◌, ◌≤◌, true, false, if◌then◌else◌, not, List, [], ◌∷◌, length, get_or, take, drop, position, Some, None, sym, refl, ap, ◌∙◌, subst, ⊎_elim, arith, length-drop}
 use Rattle.std.specs.List.{position_or_len, prefix_len, take_while}
 use Rattle.std.proofs.lemmas.List.Folds.{length-prefix_len}
 use Rattle.std.proofs.lemmas.List.{drop_more}
@@ -17,16 +17,16 @@ letters l = prefix_len is_letter l
 
 module _ (c : ℕ) (cs : List ℕ) where
   space_more : is_space c ≡ true → spaces (c ∷ cs) ≡ suc (spaces cs)
-  space_more e = ap (λ b. cond (not (not b)) (1 + spaces cs) 0) e ∙ omega arith
+  space_more e = ap (λ b. if not (not b) then 1 + spaces cs else 0) e ∙ omega arith
 
   no_space : is_space c ≡ false → spaces (c ∷ cs) ≡ 0
-  no_space e = ap (λ b. cond (not (not b)) (1 + spaces cs) 0) e
+  no_space e = ap (λ b. if not (not b) then 1 + spaces cs else 0) e
 
   letter_more : is_space c ≡ false → letters (c ∷ cs) ≡ suc (letters cs)
-  letter_more e = ap (λ b. cond (not b) (1 + letters cs) 0) e ∙ omega arith
+  letter_more e = ap (λ b. if not b then 1 + letters cs else 0) e ∙ omega arith
 
   no_letter : is_space c ≡ true → letters (c ∷ cs) ≡ 0
-  no_letter e = ap (λ b. cond (not b) (1 + letters cs) 0) e
+  no_letter e = ap (λ b. if not b then 1 + letters cs else 0) e
 
 -- white space at the front has no word
 past_spaces : (l : List ℕ) → words_in (drop (spaces l) l) ≡ words_in l

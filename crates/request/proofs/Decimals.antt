@@ -1,5 +1,5 @@
 -- Decimal numbers read digit by digit. Assumes nothing.
-use Rattle.std.proofs.Common.{◌≡◌, ℕ, ◌+◌, ◌-◌, ◌*◌, ◌^◌, ◌<◌, ◌≤◌, Bool, true, false, cond, ◌&&◌, List, [], ◌∷◌, ◌++◌, length, get_or, drop, Some, None, Option, refl, ap, ◌∙◌, arith}
+use Rattle.std.proofs.Common.{◌≡◌, ℕ, ◌+◌, ◌-◌, ◌*◌, ◌^◌, ◌<◌, ◌≤◌, Bool, true, false, if◌then◌else◌, ◌&&◌, List, [], ◌∷◌, ◌++◌, length, get_or, drop, Some, None, Option, refl, ap, ◌∙◌, arith}
 use Rattle.std.proofs.lemmas.List.{drop_more}
 use Rattle.std.proofs.lemmas.Bool.{cond-false, le-ltb}
 use Rattle.request.specs.Numbers.{all_digits, in_range, is_digit, number_on, value_on}
@@ -16,7 +16,7 @@ too_large acc cs h = by (all_digits cs)
     out : in_range (value_on acc cs) ≡ None
     out = cond-false _ _ _ (le-ltb (value_on acc cs) (2 ^ 32) (omega (arith, value_grows acc cs)))
 
-    by : (b : Bool) → cond b (in_range (value_on acc cs)) None ≡ None
+    by : (b : Bool) → (if b then in_range (value_on acc cs) else None) ≡ None
     by true = out
     by false = refl
 
@@ -26,7 +26,7 @@ module _ (w : List ℕ) (acc i : ℕ) (below : i < length w) where
   digit-more e =
       let cs = drop (i + 1) w in
       let n = value_on (acc * 10 + (get_or w i 0 - 48)) cs in
-      ap (number_on acc) (drop_more w i 0 below) ∙ ap (λ b. cond (b && all_digits cs) (in_range n) None) e
+      ap (number_on acc) (drop_more w i 0 below) ∙ ap (λ b. if b && all_digits cs then in_range n else None) e
 
 -- what was read, before what is still to be read
 abbrev pub prepend : List ℕ → Option (List ℕ) → Option (List ℕ)

@@ -1,5 +1,5 @@
 -- Requests for calls of a link. Assumes nothing.
-use Rattle.std.specs.Prelude.{ℕ, cond, ◌&&◌, List, [], ◌∷◌, Some, None, codes, Option}
+use Rattle.std.specs.Prelude.{ℕ, if◌then◌else◌, ◌&&◌, List, [], ◌∷◌, Some, None, codes, Option}
 use Rattle.std.specs.Str.{bytes_eq}
 use Rattle.request.specs.declared.links.LinkCall.{LinkCall}
 use Rattle.request.specs.declared.links.LinkCall.TheVariants.{Cell, Line, Trim, Send, Read, Clear, Waiting, Area}
@@ -8,18 +8,18 @@ use Rattle.request.specs.Requests.{numbered, with_words}
 -- the calls with a name of one word
 abbrev pub call_named : List ℕ → Option LinkCall
 call_named word =
-    cond (bytes_eq word (codes "send")) (Some Send)
-    (cond (bytes_eq word (codes "read")) (Some Read)
-    (cond (bytes_eq word (codes "clear")) (Some Clear)
-    (cond (bytes_eq word (codes "waiting")) (Some Waiting)
-    (cond (bytes_eq word (codes "area")) (Some Area) None))))
+    if bytes_eq word (codes "send") then Some Send
+    else (if bytes_eq word (codes "read") then Some Read
+    else (if bytes_eq word (codes "clear") then Some Clear
+    else (if bytes_eq word (codes "waiting") then Some Waiting
+    else (if bytes_eq word (codes "area") then Some Area else None))))
 
 -- a new link, or a layer, with a name of two words
 abbrev pub kind_named : List ℕ → List ℕ → Option LinkCall
 kind_named word kind =
-    cond (bytes_eq word (codes "link") && bytes_eq kind (codes "cell")) (Some Cell)
-    (cond (bytes_eq word (codes "link") && bytes_eq kind (codes "line")) (Some Line)
-    (cond (bytes_eq word (codes "layer") && bytes_eq kind (codes "trim")) (Some Trim) None))
+    if bytes_eq word (codes "link") && bytes_eq kind (codes "cell") then Some Cell
+    else (if bytes_eq word (codes "link") && bytes_eq kind (codes "line") then Some Line
+    else (if bytes_eq word (codes "layer") && bytes_eq kind (codes "trim") then Some Trim else None))
 
 -- a name of two words, the first of which is w
 abbrev pub second_named : List ℕ → List (List ℕ) → Option (LinkCall × List (List ℕ))

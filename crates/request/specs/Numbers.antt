@@ -1,5 +1,5 @@
 -- The numbers that words write in decimal. Assumes nothing.
-use Rattle.std.specs.Prelude.{ℕ, ◌+◌, ◌-◌, ◌*◌, ◌^◌, Bool, true, cond, ◌&&◌, List, [], ◌∷◌, Some, None, Option, nat_le, nat_lt}
+use Rattle.std.specs.Prelude.{ℕ, ◌+◌, ◌-◌, ◌*◌, ◌^◌, Bool, true, if◌then◌else◌, ◌&&◌, List, [], ◌∷◌, Some, None, Option, nat_le, nat_lt}
 
 -- a digit, 0 to 9
 abbrev pub is_digit : ℕ → Bool
@@ -17,11 +17,11 @@ value_on acc (c ∷ cs) = value_on (acc * 10 + (c - 48)) cs
 
 -- the number if it is below 2 ^ 32
 abbrev pub in_range : ℕ → Option ℕ
-in_range n = cond (nat_lt n (2 ^ 32)) (Some n) None
+in_range n = if nat_lt n (2 ^ 32) then Some n else None
 
 -- the number that digits write behind digits of the value acc
 abbrev pub number_on : ℕ → List ℕ → Option ℕ
-number_on acc cs = cond (all_digits cs) (in_range (value_on acc cs)) None
+number_on acc cs = if all_digits cs then in_range (value_on acc cs) else None
 
 -- the number that a word writes: one digit or more, nothing else, and below 2 ^ 32
 abbrev pub number : List ℕ → Option ℕ

@@ -1,5 +1,5 @@
 -- Requests for plans. Assumes nothing.
-use Rattle.std.specs.Prelude.{ℕ, cond, List, [], ◌∷◌, Some, None, codes, Option}
+use Rattle.std.specs.Prelude.{ℕ, if◌then◌else◌, List, [], ◌∷◌, Some, None, codes, Option}
 use Rattle.std.specs.Str.{bytes_eq}
 use Rattle.request.specs.declared.plans.Maker.{Maker}
 use Rattle.request.specs.declared.plans.Maker.TheVariants.{Swap, Radix}
@@ -7,7 +7,7 @@ use Rattle.request.specs.Requests.{numbered, with_words}
 
 -- the maker of this name
 abbrev pub plan_named : List ℕ → Option Maker
-plan_named word = cond (bytes_eq word (codes "swap")) (Some Swap) (cond (bytes_eq word (codes "radix")) (Some Radix) None)
+plan_named word = if bytes_eq word (codes "swap") then Some Swap else (if bytes_eq word (codes "radix") then Some Radix else None)
 
 -- the maker that the words of a line name, and the words behind its name
 abbrev pub maker_words : List (List ℕ) → Option (Maker × List (List ℕ))

@@ -1,5 +1,5 @@
 -- The words of a text: the longest runs of bytes that are no white space. Assumes nothing.
-use Rattle.std.specs.Prelude.{◌≡◌, ℕ, ◌<◌, Bool, true, cond, not, ◌||◌, List, [], ◌∷◌, length, Some, None, Option, ◌==◌}
+use Rattle.std.specs.Prelude.{◌≡◌, ℕ, ◌<◌, Bool, true, if◌then◌else◌, not, ◌||◌, List, [], ◌∷◌, length, Some, None, Option, ◌==◌}
 use Rattle.std.specs.Borrow.{Bor}
 use Rattle.request.specs.declared.words.Cut.{Cut}
 
@@ -24,7 +24,7 @@ onto c (w ∷ ws) = (c ∷ w) ∷ ws
 -- the words of a text, in order
 abbrev pub words_in : List ℕ → List (List ℕ)
 words_in [] = []
-words_in (c ∷ cs) = cond (is_space c) (words_in cs) (cond (at_gap cs) ((c ∷ []) ∷ words_in cs) (onto c (words_in cs)))
+words_in (c ∷ cs) = if is_space c then words_in cs else (if at_gap cs then (c ∷ []) ∷ words_in cs else onto c (words_in cs))
 
 -- no word, or the first word with the shorter text behind it that has the other words
 abbrev pub FirstWord : List ℕ → Option (Cut (Bor (List ℕ))) → Type 0

@@ -26,6 +26,7 @@ pub enum LinkCall {
 pub type LinkRequest = Request<LinkCall>;
 
 // The call of this name.
+// Stays: a word that is no name has no error to tell, so `TryFrom` is no plainer than an `Option`.
 fn call_named(word: &[u8]) -> Option<LinkCall>
     ensures { result ≡ call_named word.now }
 {

@@ -7,7 +7,8 @@ ghost use Rattle.request.specs.Words.{words_in};
 use crate::words::Words;
 use std::alloc::{AllocError, Global};
 
-// The number that a word writes, if it writes one that fits: a sign is no digit.
+// The number that a word writes, if it writes one that fits.
+// Stays: the library's `parse` takes text and a sign, so it needs two tests before it that this loop does not.
 pub fn number_of(word: &[u8]) -> Option<u32>
     ensures { result ≡ number word.now }
 {

@@ -20,6 +20,7 @@ pub enum Maker {
 pub type PlanRequest = Request<Maker>;
 
 // The maker of this name.
+// Stays: a word that is no name has no error to tell, so `TryFrom` is no plainer than an `Option`.
 fn maker_named(word: &[u8]) -> Option<Maker>
     ensures { result ≡ plan_named word.now }
 {

@@ -1,5 +1,5 @@
 -- What a kind of pixel is: pixels P, and records R as they lie in memory. Assumes nothing.
-use Rattle.std.specs.Prelude.{◌≡◌, ℕ, ◌≤◌, cond, List, length, replicate, Some, None, Option, nat_eq}
+use Rattle.std.specs.Prelude.{◌≡◌, ℕ, ◌≤◌, if◌then◌else◌, List, length, replicate, Some, None, Option, nat_eq}
 use Rattle.std.specs.Cmp.Lexicographic.{pointwise}
 use Rattle.tile.specs.Words.{AreWords}
 use Rattle.tile.specs.Named.{Named}
@@ -40,4 +40,4 @@ pub record KindLaws {P R : Type 0} (m : Kind P R) : Type 0 where
 
 -- the pixel made of the words, if it has these words
 abbrev pub reading : {P : Type 0} → (P → List ℕ) → (List ℕ → P) → List ℕ → Option P
-reading words of_words ws = cond (pointwise nat_eq (words (of_words ws)) ws) (Some (of_words ws)) None
+reading words of_words ws = if pointwise nat_eq (words (of_words ws)) ws then Some (of_words ws) else None

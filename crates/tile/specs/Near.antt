@@ -1,5 +1,5 @@
 -- Nearest pixels. Assumes nothing.
-use Rattle.std.specs.Prelude.{◌≡◌, ℕ, zero, suc, ◌≤◌, cond, List, [], ◌∷◌, nat_le, slice_index, refl}
+use Rattle.std.specs.Prelude.{◌≡◌, ℕ, zero, suc, ◌≤◌, if◌then◌else◌, List, [], ◌∷◌, nat_le, slice_index, refl}
 use Rattle.std.proofs.Common.{arith}
 use Rattle.tile.specs.Kinds.{Kind, reading}
 use Rattle.tile.specs.Words.{low}
@@ -32,7 +32,7 @@ blank = record { nearness = 0; colour = 0; lawful = (omega arith, omega arith, �
 
 -- a tie goes to the front
 abbrev pub join : Nearest → Nearest → Nearest
-join front back = cond (nat_le back.nearness front.nearness) front back
+join front back = if nat_le back.nearness front.nearness then front else back
 
 abbrev pub words : Nearest → List ℕ
 words p = p.nearness ∷ p.colour ∷ []

@@ -1,5 +1,5 @@
 -- Words that are read. Assumes nothing.
-use Rattle.std.specs.Prelude.{◌≡◌, ℕ, Bool, true, false, List, Some, None, nat_eq, cond, refl}
+use Rattle.std.specs.Prelude.{◌≡◌, ℕ, Bool, true, false, List, Some, None, nat_eq, if◌then◌else◌, refl}
 use Rattle.std.proofs.Common.{sym, ap, ◌∙◌}
 use Rattle.std.proofs.lemmas.Bool.{cond-true}
 use Rattle.std.proofs.lemmas.Slice.Eq.{bytes_eq-Decides}
@@ -16,7 +16,7 @@ module _ {P : Type 0} (words : P → List ℕ) (of_words : List ℕ → P) where
   pub reading-only : (ws : List ℕ) (p : P) → reading words of_words ws ≡ Some p → words p ≡ ws
   reading-only ws p = only (pointwise nat_eq (words (of_words ws)) ws) (bytes_eq-Decides (words (of_words ws)) ws).0
     where
-      only : (same : Bool) → (same ≡ true → words (of_words ws) ≡ ws) → cond same (Some (of_words ws)) None ≡ Some p → words p ≡ ws
+      only : (same : Bool) → (same ≡ true → words (of_words ws) ≡ ws) → (if same then Some (of_words ws) else None) ≡ Some p → words p ≡ ws
       only true told e = let q : of_words ws ≡ p = cc in ap words (sym q) ∙ told refl
       only false told e = cc
 

@@ -1,5 +1,5 @@
 -- Faults as text. Assumes nothing.
-use Rattle.std.specs.Prelude.{ℕ, cond, List, ◌++◌, codes, decimal, ◌==◌}
+use Rattle.std.specs.Prelude.{ℕ, if◌then◌else◌, List, ◌++◌, codes, decimal, ◌==◌}
 use Rattle.tile.specs.declared.fault.Ground.{Ground}
 use Rattle.tile.specs.declared.fault.Ground.TheVariants.{UnknownRecord, CutShort, OutOfPlace, WrongRank, OffLimits, WrongKind, UnlawfulPixel, Outside, TooShort, Unsuited, WrongLength, BoxTaken, BoxEmpty, Spoilt, NoDelivery, NotClosed, Finished, Unfinished, BoxesInUse, BadMessage}
 use Rattle.tile.specs.declared.fault.Fault.{Fault}
@@ -30,7 +30,7 @@ sentence BadMessage = codes "wrong message"
 
 -- a rank, `none` where there is none
 abbrev pub rank_text : ℕ → List ℕ
-rank_text r = cond (r == no_rank) (codes "none") (decimal r)
+rank_text r = if r == no_rank then codes "none" else decimal r
 
 -- the line that tells a fault
 abbrev pub fault_text : Fault → List ℕ

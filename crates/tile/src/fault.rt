@@ -3,7 +3,7 @@ ghost use Rattle.std.specs.Prelude.{◌≡◌};
 ghost use Rattle.tile.specs.Faults.{number_of, ground_of, fault_number, fault_part, fault_rank, fault_place, at_rank, unranked};
 
 // The rank of a fault that concerns none.
-// Stays: a refusal is told as four numbers, and a caller may bring this one himself, so an Option beside it is no plainer.
+// Stays: `rank` promises a number, and a call may be given this very rank, so an `Option` would stand beside the number and not in its place.
 pub const NO_RANK: u32 = 4_294_967_295;
 
 // The ground of a refusal, in the order in which grounds are tried.
@@ -86,8 +86,8 @@ impl Fault {
         self.ground().number()
     }
 
-    // Stays: the variants are the enum of the parts, and this is the number that documents and logs give each.
     // The part that refuses: 1 the dump reader, 2 any other call, 3 a plan maker, 4 a link.
+    // Stays: the variants are the enum of the parts, and this is the number that documents and logs give each.
     pub fn part(self) -> u8
         ensures { result ≡ fault_part self }
     {

@@ -6,12 +6,12 @@ use crate::fault::{Fault, Ground, NO_RANK};
 use std::error::Error;
 use std::fmt;
 
-// What a ground means, in a few words.
-impl fmt::Display for Ground {
-    ghost output = { λ x. Some (sentence x) };
-
-    fn fmt<W: fmt::Write>(&self, f: &mut fmt::Formatter<W>) -> fmt::Result {
-        let sentence = match self {
+impl Ground {
+    // What it means, in a few words.
+    pub fn sentence(self) -> &'static str
+        ensures { result.now ≡ sentence self }
+    {
+        match self {
             Ground::UnknownRecord => "unknown record kind",
             Ground::CutShort => "dump cut short",
             Ground::OutOfPlace => "record out of place",
@@ -32,7 +32,15 @@ impl fmt::Display for Ground {
             Ground::Unfinished => "some rank unfinished",
             Ground::BoxesInUse => "messages waiting",
             Ground::BadMessage => "wrong message",
-        };
+        }
+    }
+}
+
+impl fmt::Display for Ground {
+    ghost output = { λ x. Some (sentence x) };
+
+    fn fmt<W: fmt::Write>(&self, f: &mut fmt::Formatter<W>) -> fmt::Result {
+        let sentence = self.sentence();
         write!(f, "{sentence}")
     }
 }

@@ -10,6 +10,7 @@ pub trait Pixel: Copy + From<Self::Record> {
     type Record: Copy + From<Self>;
 
     // The kind's number.
+    // Stays: the trait is open, and an enum of the kinds that have names would ask more of a kind of its own.
     const KIND: u8;
 
     // How many words a pixel has.

@@ -28,18 +28,26 @@ fn refuse(rt: &HostRuntime, word: &str) -> anyhow::Result<()> {
     Err(anyhow!("no such request"))
 }
 
+// Standard input.
+fn input(rt: &HostRuntime) -> io::Result<BufReader<Stdin>> {
+    BufReader::new(rt.alloc(), rt.stdin())
+}
+
+// Standard output, written line by line.
+fn output(rt: &HostRuntime) -> io::Result<LineWriter<Printer<'_, HostRuntime>>> {
+    LineWriter::new(rt.alloc(), io::writer(rt))
+}
+
 fn main(rt: HostRuntime) -> anyhow::Result<()> {
     let heap = rt.alloc();
     let given = env::args(&rt)?.skip(1).collect::<Vec<String>>(heap)?;
-    let input = BufReader::new(heap, rt.stdin())?;
-    let mut output = io::writer(&rt);
     match request_of(given.as_slice()) {
         Request::Help => Ok(rt.print(HELP)?),
-        Request::InspectLines => inspect_lines(heap, input, &mut output),
-        Request::InspectFile(path) => inspect_file(heap, &rt, path, &mut output),
-        Request::Plan([]) => plan_lines(heap, input, &mut output),
-        Request::Plan(words) => plan_words(heap, words, &mut output),
-        Request::Link => link_lines(heap, input, &mut output),
+        Request::InspectLines => inspect_lines(heap, input(&rt)?, &mut output(&rt)?),
+        Request::InspectFile(path) => inspect_file(heap, &rt, path, &mut output(&rt)?),
+        Request::Plan([]) => plan_lines(heap, input(&rt)?, &mut output(&rt)?),
+        Request::Plan(words) => plan_words(heap, words, &mut output(&rt)?),
+        Request::Link => link_lines(heap, input(&rt)?, &mut output(&rt)?),
         Request::Unknown(word) => refuse(&rt, word),
     }
 }

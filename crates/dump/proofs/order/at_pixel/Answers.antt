@@ -7,16 +7,16 @@ pub returns-then-is_none : goal.returns-then-is_none
 returns-then-is_none g c =
     let told = body_told g.P.Pixel.model g.met.P.Pixel.lawful c.requires.named c.args.body.now c.read_body.result c.requires.size c.read_body.ensures.value c.read_body.ensures.words in
     let law = sym told ∙ c.if-is_none.ensures in
-    rw c.in-Within.is (grind (arith, nat_tests))
+    rw c.in_ok-p.ensures (grind (arith, nat_tests))
 
 pub returns-then-p : goal.returns-then-p
 returns-then-p g c =
     let told = body_told g.P.Pixel.model g.met.P.Pixel.lawful c.requires.named c.args.body.now c.read_body.result c.requires.size c.read_body.ensures.value c.read_body.ensures.words in
     let law = sym told ∙ c.if-is_none.ensures in
-    rw c.in-Within.is (grind (arith, nat_tests))
+    rw c.in_ok-p.ensures (grind (arith, nat_tests))
 
 pub returns : goal.returns
 returns g c =
     let told = body_told g.P.Pixel.model g.met.P.Pixel.lawful c.requires.named c.args.body.now c.read_body.result c.requires.size c.read_body.ensures.value c.read_body.ensures.words in
     let law = sym told ∙ c.if-is_none.ensures in
-    rw c.in-Within.is (grind (arith, nat_tests), refl)
+    rw c.in_ok-p.ensures (grind (arith, nat_tests), refl)

@@ -1,11 +1,6 @@
 use Rattle.std.proofs.Common.{rules}
-use Rattle.boxes.proofs.CellCalls.{box, clear_done}
+use Rattle.boxes.proofs.CellCalls.{clear_done}
 use Rattle.boxes.proofs.cell_link.CellLinkLink.clear.Goals as goal
-
-pub returns-in_err-require : goal.returns-in_err-require
-returns-in_err-require c =
-    let b = box c.args.self.now c.args.pair.from c.args.pair.to c.in_ok-at.at (search rules) (search rules) in
-    search rules
 
 pub returns : goal.returns
 returns c = clear_done c.args.self.now c.args.pair.from c.args.pair.to c.in_ok-at.at (search rules) (search rules) (search rules)

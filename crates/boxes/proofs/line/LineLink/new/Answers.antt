@@ -1,4 +1,4 @@
-use Rattle.std.proofs.Common.{◌≡◌, cond, length, arith, rules}
+use Rattle.std.proofs.Common.{◌≡◌, if◌then◌else◌, length, arith, rules}
 use Rattle.boxes.proofs.LineCalls.{line_started, none_kept}
 use Rattle.boxes.specs.Lines.{line_words}
 use Rattle.boxes.specs.Sizes.{suffices}
@@ -14,6 +14,6 @@ pub returns : goal.returns
 returns c =
     let sizes = c.unwrap_or_default-sizes.result in
     let fits = suffices c.args.ranks c.args.longest (line_words c.args.ranks c.args.longest) (length c.args.words.now) in
-    let ranks : sizes.ranks ≡ cond fits c.args.ranks 0 = search rules in
-    let longest : sizes.longest ≡ cond fits c.args.longest 0 = search rules in
+    let ranks : sizes.ranks ≡ (if fits then c.args.ranks else 0) = search rules in
+    let longest : sizes.longest ≡ (if fits then c.args.longest else 0) = search rules in
     line_started c.args.ranks c.args.longest (length c.args.words.now) sizes.ranks sizes.longest ranks longest

@@ -1,16 +1,6 @@
 use Rattle.std.proofs.Common.{◌+◌, get_or, arith, rules}
-use Rattle.boxes.proofs.LineCalls.{vacancy, short_kept, clear_kept, clear_done, clear_order}
+use Rattle.boxes.proofs.LineCalls.{short_kept, clear_kept, clear_done, clear_order}
 use Rattle.boxes.proofs.line_link.LineLinkLink.clear.Goals as goal
-
-pub returns-in_err-at-clause-call : goal.returns-in_err-at-clause-call
-returns-in_err-at-clause-call c =
-    let empty = vacancy c.args.self.now c.args.pair.from c.args.pair.to (search rules) c.seek.result (search rules) in
-    search rules
-
-pub returns-in_err-at-clause-order : goal.returns-in_err-at-clause-order
-returns-in_err-at-clause-order c =
-    let empty = vacancy c.args.self.now c.args.pair.from c.args.pair.to (search rules) c.seek.result (search rules) in
-    search rules
 
 pub invariant_of-self : goal.invariant_of-self
 invariant_of-self c =

@@ -1,16 +1,6 @@
 use Rattle.std.proofs.Common.{rules}
-use Rattle.boxes.proofs.LineCalls.{vacancy, send_room, send_kept, send_done, send_order}
+use Rattle.boxes.proofs.LineCalls.{send_room, send_kept, send_done, send_order}
 use Rattle.boxes.proofs.line_link.LineLinkLink.send.Goals as goal
-
-pub returns-in_err-require-2-clause-call : goal.returns-in_err-require-2-clause-call
-returns-in_err-require-2-clause-call c =
-    let empty = vacancy c.args.self.now c.args.pair.from c.args.pair.to (search rules) c.seek.result (search rules) in
-    search rules
-
-pub returns-in_err-require-2-clause-order : goal.returns-in_err-require-2-clause-order
-returns-in_err-require-2-clause-order c =
-    let empty = vacancy c.args.self.now c.args.pair.from c.args.pair.to (search rules) c.seek.result (search rules) in
-    search rules
 
 pub write_entry-requires-clause-room : goal.write_entry-requires-clause-room
 write_entry-requires-clause-room c =
