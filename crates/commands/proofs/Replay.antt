@@ -99,6 +99,6 @@ clear_is s (x ∷ y ∷ []) h k = refl
 clear_is s (x ∷ y ∷ z ∷ ws) h k = absurd (omega arith)
 
 -- no layer goes on a link that has all that it takes
-pub full : (m : LinkModel) (layers room : ℕ) → nat_lt 0 layers ≡ false → layered m layers room ≡ (line_of (codes "no more than four layers"), at m layers room)
-full m zero room e = refl
-full m (suc layers) room e = let z : suc layers ≤ 0 = grind (arith, nat_tests) in absurd (omega arith)
+pub full : (s : State) (layers : ℕ) → nat_lt 0 layers ≡ false → layered s layers ≡ (line_of (codes "no more than four layers"), s)
+full s zero e = refl
+full s (suc layers) e = let z : suc layers ≤ 0 = grind (arith, nat_tests) in absurd (omega arith)

@@ -52,12 +52,12 @@ no_call = codes "no link request: see 'tilemerge help'"
 
 -- a call that changes at most the link
 abbrev pub on_link : State → Option Fault → List ℕ → LinkModel → Step
-on_link s fault text after = (answer_line fault text, record { link = kept fault after s.link; layers = s.layers; room = s.room })
+on_link s fault text after = (answer_line fault text, record s { link = kept fault after s.link })
 
 -- one more layer on the link, unless it has all that it takes
-abbrev pub layered : LinkModel → ℕ → ℕ → Step
-layered m zero room = (line_of (codes "no more than four layers"), record { link = m; layers = zero; room = room })
-layered m (suc layers) room = (line_of (codes "ok"), record { link = trim_model m; layers = layers; room = room })
+abbrev pub layered : State → ℕ → Step
+layered s zero = (line_of (codes "no more than four layers"), s)
+layered s (suc layers) = (line_of (codes "ok"), record s { link = trim_model s.link; layers = layers })
 
 -- the call that a line asks for, with its numbers; any other line is told so and changes nothing
 abbrev pub step : State → Option (LinkCall × List ℕ) → Step
@@ -65,8 +65,8 @@ step s (Some (Send, from ∷ to ∷ words)) = on_link s (send_fault s.link from 
 step s (Some (Read, from ∷ to ∷ [])) = on_link s (read_fault s.link from to (min s.room 5200)) (message_text (message (s.link.boxes from to))) s.link
 step s (Some (Clear, from ∷ to ∷ [])) = on_link s (clear_fault s.link from to) (codes "ok") (put s.link from to Empty)
 step s (Some (Waiting, from ∷ to ∷ [])) = on_link s (waiting_fault s.link from to) (if is_empty (s.link.boxes from to) then codes "no" else codes "yes") s.link
-step s (Some (Area, room ∷ [])) = (line_of (codes "ok"), record { link = s.link; layers = s.layers; room = room })
-step s (Some (Trim, [])) = layered s.link s.layers s.room
+step s (Some (Area, room ∷ [])) = (line_of (codes "ok"), record s { room = room })
+step s (Some (Trim, [])) = layered s s.layers
 step s (Some (Cell, ranks ∷ longest ∷ [])) = (line_of (codes "ok"), opened ranks longest s.room)
 step s (Some (Line, ranks ∷ longest ∷ [])) = (line_of (codes "ok"), opened ranks longest s.room)
 step s asked = (line_of no_call, s)

@@ -30,7 +30,7 @@ opens room opening = opened opening.ranks opening.longest room
 -- the state once a link or a layer is made, if one is to be made
 abbrev pub makes : State → Next → State
 makes s (Link opening) = opens s.room opening
-makes s Layer = at (trim_model s.link) (s.layers - 1) s.room
+makes s Layer = record s { link = trim_model s.link; layers = s.layers - 1 }
 
 abbrev pub made : State → Option Next → State
 made s None = s

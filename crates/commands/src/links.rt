@@ -41,6 +41,19 @@ struct Opening {
     longest: u32,
 }
 
+impl Boxes {
+    // A link of these sizes that is to be made.
+    fn sized(self, ranks: u32, longest: u32) -> Opening
+        ensures { (result.boxes ≡ self) × (result.ranks ≡ ranks) × (result.longest ≡ longest) }
+    {
+        Opening {
+            boxes: self,
+            ranks,
+            longest,
+        }
+    }
+}
+
 // What is to be made next, a link or a layer on the one at hand.
 #[derive(Clone, Copy)]
 enum Next {
@@ -147,26 +160,10 @@ impl Desk {
             (LinkCall::Trim, []) if !more => tell(output, Ok("no more than four layers"))?,
             (LinkCall::Trim, []) => return make(output, Next::Layer),
             (LinkCall::Cell, &[ranks, longest]) => {
-                let boxes = Boxes::Cells;
-                return make(
-                    output,
-                    Next::Link(Opening {
-                        boxes,
-                        ranks,
-                        longest,
-                    }),
-                );
+                return make(output, Next::Link(Boxes::Cells.sized(ranks, longest)));
             }
             (LinkCall::Line, &[ranks, longest]) => {
-                let boxes = Boxes::Line;
-                return make(
-                    output,
-                    Next::Link(Opening {
-                        boxes,
-                        ranks,
-                        longest,
-                    }),
-                );
+                return make(output, Next::Link(Boxes::Line.sized(ranks, longest)));
             }
             _ => tell(output, Ok(NO_CALL))?,
         }

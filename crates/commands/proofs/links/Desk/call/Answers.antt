@@ -34,7 +34,7 @@ returns-in_ok-tell_done-in-Clear-len2-clause-step g c layers e =
 pub returns-in_ok-tell-in-Trim-empty-clause-step : goal.returns-in_ok-tell-in-Trim-empty-clause-step
 returns-in_ok-tell-in-Trim-empty-clause-step g c layers e =
     let s = at (g.L.Link.model c.args.link.now) layers c.args.self.now.room in
-    let none_left = full s.link layers s.room (sym e ∙ c.if-not-more.true) in
+    let none_left = full s layers (sym e ∙ c.if-not-more.true) in
     steps s s _ Trim c.as_slice.result.now _ (line_of (codes "no more than four layers")) _ _ c.in-Trim-empty.is-0 c.as_slice.ensures.value
     (none_is (λ ns. step s (Some (Trim, ns)) ≡ (line_of (codes "no more than four layers"), s)) c.as_slice.result.now none_left c.in-Trim-empty.len_below)
     c.in_ok-tell-in-Trim-empty.ensures
