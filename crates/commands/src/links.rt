@@ -1,4 +1,13 @@
 // Replays calls of links.
+ghost use Rattle.std.specs.Prelude.{◌≡◌, ℕ, suc, ◌<◌, true, Some, IfSome, IfOk, OnOk, codes, nat_lt};
+ghost use Rattle.std.specs.Io.Iter.{split_byte, split_known_bytes, pieces_left_to_read};
+ghost use Rattle.std.specs.Io.KnownBytes.{Appends};
+ghost use Rattle.console.specs.Reports.{line_of};
+ghost use Rattle.request.specs.Requests.{told};
+ghost use Rattle.commands.specs.declared.links.Next.TheVariants.{Layer};
+ghost use Rattle.commands.specs.Replay.{Replays, message_text, start};
+ghost use Rattle.commands.specs.Steps.{Calls, Reaches, Reads, at, made, makes, opens, outcome};
+
 use boxes::cell::CellLink;
 use boxes::line::LineLink;
 use link::Link;
@@ -32,6 +41,19 @@ struct Opening {
     longest: u32,
 }
 
+impl Boxes {
+    // A link of these sizes that is to be made.
+    fn sized(self, ranks: u32, longest: u32) -> Opening
+        ensures { (result.boxes ≡ self) × (result.ranks ≡ ranks) × (result.longest ≡ longest) }
+    {
+        Opening {
+            boxes: self,
+            ranks,
+            longest,
+        }
+    }
+}
+
 // What is to be made next, a link or a layer on the one at hand.
 #[derive(Clone, Copy)]
 enum Next {
@@ -44,6 +66,8 @@ enum Next {
 struct Message<'a>(&'a [u32]);
 
 impl fmt::Display for Message<'_> {
+    ghost output = { λ x. Some (message_text x.0.now) };
+
     fn fmt<W: fmt::Write>(&self, f: &mut fmt::Formatter<W>) -> fmt::Result {
         write!(f, "ok:")?;
         for word in self.0 {
@@ -53,102 +77,126 @@ impl fmt::Display for Message<'_> {
     }
 }
 
-// Where answers go, and how long an area reads bring.
+// Tells the answer to a call, or its refusal.
+fn tell<T: fmt::Display + Drop, W: Write>(
+    output: &mut W,
+    answer: Result<T, Fault>,
+) -> anyhow::Result<()>
+    ensures { OnOk result (IfSome (outcome T.output answer) (Appends (W.contents output.old) (W.contents output.new))) }
+{
+    match answer {
+        Ok(told) => writeln!(output, "{told}")?,
+        Err(fault) => writeln!(output, "{fault}")?,
+    }
+    Ok(())
+}
+
+// Tells that a call is done, or its refusal.
+fn tell_done<W: Write>(output: &mut W, answer: Result<(), Fault>) -> anyhow::Result<()>
+    ensures { OnOk result (IfSome (outcome (λ _. Some (codes "ok")) answer) (Appends (W.contents output.old) (W.contents output.new))) }
+{
+    tell(output, answer.map(|()| "ok"))
+}
+
+// Tells that a link or a layer is made.
+fn make<W: Write>(output: &mut W, next: Next) -> anyhow::Result<Option<Next>>
+    ensures { IfOk result (λ made. (made ≡ Some next) × Appends (W.contents output.old) (W.contents output.new) (line_of (codes "ok"))) }
+{
+    tell(output, Ok("ok"))?;
+    Ok(Some(next))
+}
+
+// Where memory comes from, and how long an area reads bring.
 #[derive(Drop)]
-struct Desk<'a, W> {
+struct Desk {
     heap: Global,
-    output: &'a mut W,
     room: u32,
 }
 
-impl<'a, W: Write> Desk<'a, W> {
-    // Tells the answer to a call, or its refusal.
-    fn tell<T: fmt::Display + Drop>(&mut self, answer: Result<T, Fault>) -> anyhow::Result<()> {
-        match answer {
-            Ok(told) => writeln!(self.output, "{told}")?,
-            Err(fault) => writeln!(self.output, "{fault}")?,
-        }
-        Ok(())
-    }
-
+impl Desk {
     // Reads a message and tells its words.
-    fn read<L: Link>(&mut self, link: &mut L, pair: Pair) -> anyhow::Result<()> {
+    fn read<L: Link, W: Write>(
+        &self,
+        link: &mut L,
+        pair: Pair,
+        output: &mut W,
+    ) -> anyhow::Result<()>
+        ensures { OnOk result (Reads (L.model link.old) (L.model link.new) pair.from pair.to self.now.room (W.contents output.old) (W.contents output.new)) }
+    {
         let mut area = vec![in self.heap; 0; self.room.min(AREA) as usize]?;
         match link.read(pair, area.as_mut_slice()) {
-            Ok(count) => self.tell(Ok(Message(area.get(..count).unwrap_or(&[])))),
-            Err(fault) => self.tell(Err::<&str, Fault>(fault)),
+            Ok(count) => tell(output, Ok(Message(area.get(..count).unwrap_or(&[])))),
+            Err(fault) => tell(output, Err::<&str, Fault>(fault)),
         }
     }
 
     // Makes the call that a line asks for, or tells what is to be made.
-    fn call<L: Link>(
+    fn call<L: Link, W: Write>(
         &mut self,
         link: &mut L,
         asked: &LinkRequest,
         more: bool,
-    ) -> anyhow::Result<Option<Next>> {
+        output: &mut W,
+    ) -> anyhow::Result<Option<Next>>
+        ensures lays { IfOk result (λ next. next ≡ Some Layer → more ≡ true) }
+        ensures step { IfOk result (λ next. (layers : ℕ) → more ≡ nat_lt 0 layers → Calls (at (L.model link.old) layers self.old.room) (Some (told asked.now)) (made (at (L.model link.new) layers self.new.room) next) (W.contents output.old) (W.contents output.new)) }
+    {
         match (asked.call, asked.numbers.as_slice()) {
             (LinkCall::Send, &[from, to, ref words @ ..]) => {
-                let answer = link.send(Pair { from, to }, words);
-                self.tell(answer.map(|()| "ok"))?;
+                tell_done(output, link.send(Pair { from, to }, words))?;
             }
-            (LinkCall::Read, &[from, to]) => self.read(link, Pair { from, to })?,
+            (LinkCall::Read, &[from, to]) => self.read(link, Pair { from, to }, output)?,
             (LinkCall::Clear, &[from, to]) => {
-                let answer = link.clear(Pair { from, to });
-                self.tell(answer.map(|()| "ok"))?;
+                tell_done(output, link.clear(Pair { from, to }))?;
             }
             (LinkCall::Waiting, &[from, to]) => {
                 let answer = link.waiting(Pair { from, to });
-                self.tell(answer.map(|waits| if waits { "yes" } else { "no" }))?;
+                tell(output, answer.map(|waits| if waits { "yes" } else { "no" }))?;
             }
             (LinkCall::Area, &[room]) => {
                 self.room = room;
-                self.tell(Ok("ok"))?;
+                tell(output, Ok("ok"))?;
             }
-            (LinkCall::Trim, []) if !more => self.tell(Ok("no more than four layers"))?,
-            (LinkCall::Trim, []) => return self.make(Next::Layer),
+            (LinkCall::Trim, []) if !more => tell(output, Ok("no more than four layers"))?,
+            (LinkCall::Trim, []) => return make(output, Next::Layer),
             (LinkCall::Cell, &[ranks, longest]) => {
-                return self.make(Next::Link(Opening {
-                    boxes: Boxes::Cells,
-                    ranks,
-                    longest,
-                }));
+                return make(output, Next::Link(Boxes::Cells.sized(ranks, longest)));
             }
             (LinkCall::Line, &[ranks, longest]) => {
-                return self.make(Next::Link(Opening {
-                    boxes: Boxes::Line,
-                    ranks,
-                    longest,
-                }));
+                return make(output, Next::Link(Boxes::Line.sized(ranks, longest)));
             }
-            _ => self.tell(Ok(NO_CALL))?,
+            _ => tell(output, Ok(NO_CALL))?,
         }
         Ok(None)
     }
-
-    // Says that a link or a layer is made.
-    fn make(&mut self, next: Next) -> anyhow::Result<Option<Next>> {
-        self.tell(Ok("ok"))?;
-        Ok(Some(next))
-    }
 }
 
-// The lines that are still to come, and where their answers go.
+// The lines that are still to come, and what their calls need beside the link.
 #[derive(Drop)]
-struct Replay<'a, R, W> {
+struct Replay<R> {
     lines: Split<R>,
-    desk: Desk<'a, W>,
+    desk: Desk,
+    ghost feeds: { split_byte lines ≡ 10 },
 }
 
-impl<'a, R: BufRead + Drop, W: Write> Replay<'a, R, W> {
+impl<R: BufRead + Drop> Replay<R> {
     // Makes the calls of the lines, up to one that makes a link or a layer.
-    fn calls<L: Link>(&mut self, link: &mut L, more: bool) -> anyhow::Result<Option<Next>> {
-        for line in self.lines.by_ref() {
+    fn calls<L: Link, W: Write>(
+        &mut self,
+        link: &mut L,
+        more: bool,
+        output: &mut W,
+    ) -> anyhow::Result<Option<Next>>
+        ensures steps { IfOk result (λ next. (layers : ℕ) → more ≡ nat_lt 0 layers → Reaches (makes (at (L.model link.new) layers self.new.desk.room)) (at (L.model link.old) layers self.old.desk.room) next (split_known_bytes R.remaining self.old.lines) (split_known_bytes R.remaining self.new.lines) (W.contents output.old) (W.contents output.new)) }
+        ensures lays { IfOk result (λ next. next ≡ Some Layer → more ≡ true) }
+        ensures nearer { IfOk result (λ next. IfSome next (λ _. pieces_left_to_read self.new.lines < pieces_left_to_read self.old.lines)) }
+    {
+        while let Some(line) = self.lines.next() {
             let Some(asked) = link_request(self.desk.heap, line?.as_slice())? else {
-                self.desk.tell(Ok(NO_CALL))?;
+                tell(output, Ok(NO_CALL))?;
                 continue;
             };
-            if let Some(next) = self.desk.call(link, &asked, more)? {
+            if let Some(next) = self.desk.call(link, &asked, more, output)? {
                 return Ok(Some(next));
             }
         }
@@ -156,7 +204,14 @@ impl<'a, R: BufRead + Drop, W: Write> Replay<'a, R, W> {
     }
 
     // Makes a link over memory of its own and the calls on it, up to one that makes another link.
-    fn on_link(&mut self, opening: Opening) -> anyhow::Result<Option<Opening>> {
+    fn on_link<W: Write>(
+        &mut self,
+        opening: Opening,
+        output: &mut W,
+    ) -> anyhow::Result<Option<Opening>>
+        ensures steps { IfOk result (λ next. Reaches (opens self.new.desk.room) (opens self.old.desk.room opening) next (split_known_bytes R.remaining self.old.lines) (split_known_bytes R.remaining self.new.lines) (W.contents output.old) (W.contents output.new)) }
+        ensures nearer { IfOk result (λ next. IfSome next (λ _. pieces_left_to_read self.new.lines < pieces_left_to_read self.old.lines)) }
+    {
         let Opening {
             boxes,
             ranks,
@@ -166,19 +221,24 @@ impl<'a, R: BufRead + Drop, W: Write> Replay<'a, R, W> {
         let mut words = vec![in self.desk.heap; 0; few * few * (short + 2)]?;
         let words = words.as_mut_slice();
         match boxes {
-            Boxes::Cells => Four::on_pile(self, &mut CellLink::new(ranks, longest, words)),
-            Boxes::Line => Four::on_pile(self, &mut LineLink::new(ranks, longest, words)),
+            Boxes::Cells => Four::on_pile(self, &mut CellLink::new(ranks, longest, words), output),
+            Boxes::Line => Four::on_pile(self, &mut LineLink::new(ranks, longest, words), output),
         }
     }
 }
 
 // How many more layers a pile takes.
 trait Layers {
+    ghost left: { ℕ };
+
     // Makes the calls of the lines on a link and the layers laid on it, up to one that makes another link.
-    fn on_pile<R: BufRead + Drop, W: Write, L: Link>(
-        replay: &mut Replay<R, W>,
+    fn on_pile<R: BufRead + Drop, L: Link, W: Write>(
+        replay: &mut Replay<R>,
         link: &mut L,
-    ) -> anyhow::Result<Option<Opening>>;
+        output: &mut W,
+    ) -> anyhow::Result<Option<Opening>>
+        ensures steps { IfOk result (λ next. Reaches (opens replay.new.desk.room) (at (L.model link.old) left replay.old.desk.room) next (split_known_bytes R.remaining replay.old.lines) (split_known_bytes R.remaining replay.new.lines) (W.contents output.old) (W.contents output.new)) }
+        ensures nearer { IfOk result (λ next. IfSome next (λ _. pieces_left_to_read replay.new.lines < pieces_left_to_read replay.old.lines)) };
 }
 
 // None.
@@ -193,11 +253,14 @@ struct OneMore<M> {
 type Four = OneMore<OneMore<OneMore<OneMore<Full>>>>;
 
 impl Layers for Full {
-    fn on_pile<R: BufRead + Drop, W: Write, L: Link>(
-        replay: &mut Replay<R, W>,
+    ghost left = { 0 };
+
+    fn on_pile<R: BufRead + Drop, L: Link, W: Write>(
+        replay: &mut Replay<R>,
         link: &mut L,
+        output: &mut W,
     ) -> anyhow::Result<Option<Opening>> {
-        match replay.calls(link, false)? {
+        match replay.calls(link, false, output)? {
             Some(Next::Link(opening)) => Ok(Some(opening)),
             Some(Next::Layer) | None => Ok(None),
         }
@@ -205,13 +268,16 @@ impl Layers for Full {
 }
 
 impl<M: Layers> Layers for OneMore<M> {
-    fn on_pile<R: BufRead + Drop, W: Write, L: Link>(
-        replay: &mut Replay<R, W>,
+    ghost left = { suc M.left };
+
+    fn on_pile<R: BufRead + Drop, L: Link, W: Write>(
+        replay: &mut Replay<R>,
         link: &mut L,
+        output: &mut W,
     ) -> anyhow::Result<Option<Opening>> {
-        match replay.calls(link, true)? {
+        match replay.calls(link, true, output)? {
             Some(Next::Link(opening)) => Ok(Some(opening)),
-            Some(Next::Layer) => M::on_pile(replay, &mut Trim::new(link)),
+            Some(Next::Layer) => M::on_pile(replay, &mut Trim::new(link), output),
             None => Ok(None),
         }
     }
@@ -222,22 +288,16 @@ pub fn link_lines<R: BufRead + Drop, W: Write>(
     heap: Global,
     input: R,
     output: &mut W,
-) -> anyhow::Result<()> {
+) -> anyhow::Result<()>
+    ensures { OnOk result (Replays start (R.remaining input) (W.contents output.old) (W.contents output.new)) }
+{
     let mut replay = Replay {
         lines: input.split(heap, b'\n'),
-        desk: Desk {
-            heap,
-            output,
-            room: AREA,
-        },
+        desk: Desk { heap, room: AREA },
     };
-    let mut next = Four::on_pile(&mut replay, &mut CellLink::new(0, 0, &mut []))?;
-    // Stays: a loop that waits on input has no measure, so a count that never runs out bounds it.
-    for _ in 0..u64::MAX {
-        let Some(opening) = next else {
-            break;
-        };
-        next = replay.on_link(opening)?;
+    let mut next = Four::on_pile(&mut replay, &mut CellLink::new(0, 0, &mut []), output)?;
+    while let Some(opening) = next {
+        next = replay.on_link(opening, output)?;
     }
     Ok(())
 }

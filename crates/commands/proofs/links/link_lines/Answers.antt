@@ -1,0 +1,6 @@
+use Rattle.commands.proofs.Replaying.{reaches, reaches_next}
+use Rattle.commands.proofs.links.link_lines.Goals as goal
+
+pub loop-next-preserved : goal.loop-next-preserved
+loop-next-preserved g c =
+    reaches _ _ _ _ _ _ _ _ _ _ (reaches_next _ _ _ _ _ _ _ _ c.in-Some.is c.loop-next.invariant) c.in_ok-next-2.ensures.steps
