@@ -6,7 +6,7 @@ use commands::inspects::{inspect_file, inspect_lines};
 use commands::links::link_lines;
 use commands::plans::{plan_lines, plan_words};
 use console::command_line::{Request, request_of};
-use std::io::BufReader;
+use std::io::{BufReader, LineWriter, Printer, Stdin};
 use std::{env, io};
 
 const HELP: &str =
