@@ -7,12 +7,12 @@ use Rattle.tile.specs.declared.fault.Fault.{Fault}
 use Rattle.tile.specs.Answers.{answered}
 use Rattle.tile.specs.Texts.{fault_text}
 use Rattle.link.specs.Calls.{clear_fault, send_fault}
-use Rattle.link.specs.Model.{LinkModel, Empty, Holds, put}
+use Rattle.link.specs.Model.{Empty, Holds, put}
 use Rattle.request.specs.declared.links.LinkCall.{LinkCall}
 use Rattle.request.specs.declared.links.LinkCall.TheVariants.{Cell, Line, Trim, Send, Read, Clear, Waiting, Area}
 use Rattle.console.specs.Reports.{line_of}
 use Rattle.commands.specs.Replay.{State, Step, answer_line, layered, no_call, on_link, step}
-use Rattle.commands.specs.Steps.{Calls, at, outcome}
+use Rattle.commands.specs.Steps.{Calls, outcome}
 
 -- an accepted call tells its answer, a refused one its fault
 pub refused : {A : Type 0} (o : Option Fault) (a : A) (f : Fault) (text : List ℕ) → answered o a ≡ Err f → answer_line o text ≡ line_of (fault_text f)
