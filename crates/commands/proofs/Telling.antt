@@ -1,15 +1,14 @@
 -- Telling a plan, piece by piece.
-use Rattle.std.specs.Prelude.{◌≡◌, ℕ, suc, ◌+◌, ◌<◌, ◌≤◌, min, Bool, true, false, List, [], ◌∷◌, ◌++◌, length, take, drop, Option, Result, Ok, Err, nat_lt, slice_index_or, if◌then◌else◌, refl}
+use Rattle.std.specs.Prelude.{◌≡◌, ℕ, suc, ◌+◌, ◌<◌, ◌≤◌, Bool, true, false, List, [], ◌∷◌, ◌++◌, length, take, Option, Ok, Err, nat_lt, slice_index_or, if◌then◌else◌, refl}
 use Rattle.std.proofs.Common.{sym, ap, subst, ◌∙◌, append-nil, map, string_bytes, take_all, String, Global, arith}
 use Rattle.std.specs.Io.KnownBytes.{Appends}
 use Rattle.std.specs.List.{flat_map}
 use Rattle.std.proofs.lemmas.Grind.{flat_map-append}
 use Rattle.std.proofs.lemmas.List.{map-append, take_more}
-use Rattle.tile.specs.declared.fault.Fault.{Fault}
 use Rattle.plan.specs.Answers.{outside, told, round_of}
 use Rattle.plan.specs.Model.{PlanModel}
 use Rattle.std.specs.Str.{bytes_eq}
-use Rattle.commands.specs.declared.form.Form.TheVariants.{Lines, Picture}
+use Rattle.commands.specs.declared.form.Form.TheVariants.{Picture}
 use Rattle.commands.specs.Plans.{before_space, below, form_in, line_in, svg}
 use Rattle.commands.proofs.Lines.{appends_both}
 

@@ -4,7 +4,6 @@ use Rattle.std.specs.List.{flat_map}
 use Rattle.std.specs.Str.{bytes_eq}
 use Rattle.tile.specs.declared.fault.Fault.{Fault}
 use Rattle.tile.specs.Texts.{fault_text}
-use Rattle.plan.specs.declared.runs.Run.{Run}
 use Rattle.plan.specs.declared.transfer.Transfer.{Transfer}
 use Rattle.plan.specs.Amounts.{sent}
 use Rattle.plan.specs.Model.{PlanModel}

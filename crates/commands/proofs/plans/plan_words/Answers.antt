@@ -1,4 +1,4 @@
-use Rattle.std.proofs.Common.{arith, ℕ, Bool, true, List, [], ◌∷◌, ◌++◌, ◌≡◌, map, string_bytes, take, take_all, ap, append-nil, append_assoc, sym, subst, ◌∙◌, refl}
+use Rattle.std.proofs.Common.{arith, ℕ, Bool, List, [], ◌∷◌, ◌++◌, ◌≡◌, map, string_bytes, take, take_all, ap, append-nil, append_assoc, sym, subst, ◌∙◌, refl}
 use Rattle.std.specs.Prelude.{if◌then◌else◌}
 use Rattle.std.specs.Str.{bytes_eq}
 use Rattle.commands.specs.declared.form.Form.{Form}

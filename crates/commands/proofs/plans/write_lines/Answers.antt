@@ -1,4 +1,4 @@
-use Rattle.std.proofs.Common.{ℕ, suc, ◌≡◌, ◌+◌, ap, ◌∙◌, refl, arith}
+use Rattle.std.proofs.Common.{suc, ◌≡◌, ◌+◌, ap, refl, arith}
 use Rattle.std.specs.List.{flat_map}
 use Rattle.chart.specs.Lines.{plan_line, transfer_line}
 use Rattle.commands.specs.Plans.{plan_lines}

@@ -1,4 +1,4 @@
-use Rattle.std.proofs.Common.{ℕ, suc, ◌≡◌, ◌+◌, ap, ◌∙◌, refl, arith}
+use Rattle.std.proofs.Common.{suc, ◌≡◌, ◌+◌, ap, ◌∙◌, refl, arith}
 use Rattle.std.specs.List.{flat_map}
 use Rattle.chart.specs.Picture.{column_left, picture_head, row_top}
 use Rattle.commands.specs.Plans.{picture, transfer_stroke}
