@@ -18,7 +18,7 @@ use Rattle.request.specs.Words.{words_in}
 use Rattle.commands.specs.declared.form.Form.{Form}
 use Rattle.commands.specs.declared.form.Form.TheVariants.{Lines, Picture}
 use Rattle.chart.specs.Lines.{plan_line, rank_line, sends_line, transfer_line}
-use Rattle.chart.specs.Picture.{across, bar, column_left, frame, label, picture_head, row_top, stroke}
+use Rattle.chart.specs.Picture.{across, bar, column_left, column_width, frame, label, picture_head, row_height, row_top, stroke}
 
 -- the texts of the numbers below n, one after another
 abbrev pub below : ℕ → (ℕ → List ℕ) → List ℕ
@@ -27,7 +27,7 @@ below (suc n) text = below n text ++ text n
 
 -- the line of a transfer from the column of its old round to that of its new one
 abbrev pub transfer_stroke : Transfer → List ℕ
-transfer_stroke x = stroke (column_left (x.round - 1) + 160) (row_top x.sender + 7) (column_left x.round) (row_top x.receiver + 7)
+transfer_stroke x = stroke (column_left (x.round - 1) + column_width) (row_top x.sender + 7) (column_left x.round) (row_top x.receiver + 7)
 
 -- the name of a rank before its row
 abbrev pub named : ℕ → List ℕ
@@ -69,7 +69,7 @@ module _ (m : PlanModel) where
   -- the plan as a picture, with its transfers in this order
   abbrev pub picture : List Transfer → List ℕ
   picture xs =
-      picture_head (column_left m.rounds + 160 + 70) (row_top m.ranks + 14)
+      picture_head (column_left m.rounds + column_width + 70) (row_top m.ranks + row_height)
       ++ (rank_names ++ (below (suc m.rounds) column ++ (flat_map transfer_stroke xs ++ codes "</svg>\n")))
 
   -- the plan is shown in a form, its transfers in some order

@@ -241,10 +241,10 @@ trait Layers {
         ensures nearer { IfOk result (λ next. IfSome next (λ _. pieces_left_to_read replay.new.lines < pieces_left_to_read replay.old.lines)) };
 }
 
-// None.
+// A pile that takes no further layer.
 struct Full;
 
-// One more than M.
+// A pile that takes one layer more than M does.
 struct OneMore<M> {
     above: PhantomData<M>,
 }

@@ -97,7 +97,7 @@ fn write_lines<P: Plan, W: Write>(heap: Global, plan: &P, output: &mut W) -> any
         pixels: plan.pixels(),
         rounds,
     })?;
-    for round in 0..rounds + 1 {
+    for round in 0..=rounds {
         write_round(plan, output, round)?;
     }
     write_transfers(transfers.as_slice(), output)?;
@@ -149,6 +149,7 @@ fn draw_column<P: Plan, W: Write>(plan: &P, output: &mut W, round: u32) -> anyho
 }
 
 // A line for each transfer, from the column of its old round to that of its new one.
+// Stays: beside `write_transfers`, since one loop with a closure would take the closure's text as a ghost argument too.
 fn draw_transfers<W: Write>(transfers: &[Transfer], output: &mut W) -> io::Result<()>
     ensures { OnOk result (Appends (W.contents output.old) (W.contents output.new) (flat_map transfer_stroke transfers.now)) }
 {
@@ -177,7 +178,7 @@ fn write_picture<P: Plan, W: Write>(heap: Global, plan: &P, output: &mut W) -> a
         height: row_top(plan.ranks()) + ROW,
     })?;
     draw_ranks(plan, output)?;
-    for round in 0..rounds + 1 {
+    for round in 0..=rounds {
         draw_column(plan, output, round)?;
     }
     draw_transfers(transfers.as_slice(), output)?;
@@ -221,6 +222,7 @@ fn answer<W: Write>(heap: Global, form: Form, line: &[u8], output: &mut W) -> an
 }
 
 // Answers each line of the input that asks for a plan.
+// Stays: beside `inspect_lines`, since one loop with a closure would take the closure's relation as a ghost argument too.
 pub fn plan_lines<R: BufRead + Drop, W: Write>(
     heap: Global,
     input: R,
