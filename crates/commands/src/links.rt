@@ -125,7 +125,7 @@ impl Desk {
     {
         let mut area = vec![in self.heap; 0; self.room.min(AREA) as usize]?;
         match link.read(pair, area.as_mut_slice()) {
-            Ok(count) => tell(output, Ok(Message(area.get(..count).unwrap_or(&[])))),
+            Ok(count) => tell(output, Ok(Message(&area[..count]))),
             Err(fault) => tell(output, Err::<&str, Fault>(fault)),
         }
     }

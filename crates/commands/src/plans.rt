@@ -27,6 +27,7 @@ use std::io::{BufRead, Write};
 use tile::fault::Fault;
 
 // An entry of the transfer list before it is written.
+// Stays: the list is written into memory that is brought, so each entry has a value before.
 const UNWRITTEN: Transfer = Transfer {
     round: 0,
     sender: 0,

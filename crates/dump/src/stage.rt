@@ -18,6 +18,7 @@ pub struct Progress {
 }
 
 // Before HEAD, between HEAD and END, or behind END.
+// Stays: clauses say `phase stage`, since a model of the type would hide from them the cases that `within` tells apart.
 #[derive(Clone, Copy)]
 pub enum Stage {
     Start,

@@ -55,6 +55,7 @@ impl<P: Plan> Step<'_, P> {
 }
 
 // Lists the transfers of all rounds, and answers how many they are.
+// Stays: any plan's queries can refuse, so a refusal goes on by `?`, though the clauses say that none comes.
 fn list_rounds<P: Plan>(plan: &P, area: &mut [Transfer]) -> Result<usize, Fault>
     ensures { MatchResult result (Wrote (P.model plan.now) area.old area.new) (λ _. ⊥) }
 {
