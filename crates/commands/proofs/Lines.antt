@@ -2,7 +2,7 @@
 use Rattle.std.specs.Prelude.{◌≡◌, ℕ, ◌<◌, List, [], ◌++◌, length, Option, None, Some, IfSome, Result, Ok, IfOk}
 use Rattle.std.proofs.Common.{sym, ap, subst, ◌∙◌, append_assoc, append-nil}
 use Rattle.std.specs.Io.BufRead.{first_piece, drop_through, DropsThrough}
-use Rattle.std.specs.Io.KnownBytes.{Appends, IsAtEnd}
+use Rattle.std.specs.Io.KnownBytes.{Appends, IsAtEnd, Keeps}
 use Rattle.commands.specs.Lines.{Answered, Answered.none, Answered.more, Answers}
 
 pub appends_none : (o : Option (List ℕ)) → Appends o o []
@@ -14,6 +14,13 @@ appends_both None b c x y p q = tt
 appends_both (Some xs) None c x y p q = absurd p
 appends_both (Some xs) (Some ys) None x y p q = absurd q
 appends_both (Some xs) (Some ys) (Some zs) x y p q = q ∙ ap (λ (l : List ℕ). l ++ y) p ∙ append_assoc xs x y
+
+-- what is written stays when it is written out
+pub flushed : (a b c : Option (List ℕ)) (x : List ℕ) → Appends a b x → Keeps b c → Appends a c x
+flushed None b c x p k = tt
+flushed (Some xs) None c x p k = absurd p
+flushed (Some xs) (Some ys) None x p k = absurd k
+flushed (Some xs) (Some ys) (Some zs) x p k = k ∙ p
 
 -- what holds of an answer that is accepted
 pub of_ok : {X E : Type 0} (P : X → Type 0) {r : Result X E} {x : X} → r ≡ Ok x → IfOk r P → P x

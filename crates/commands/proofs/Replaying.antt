@@ -13,7 +13,8 @@ use Rattle.request.specs.declared.links.LinkCall.{LinkCall}
 use Rattle.request.specs.Links.{link_asked}
 use Rattle.request.specs.Words.{words_in}
 use Rattle.commands.specs.Replay.{State, asked, fresh, step, Replayed, Replayed.none, Replayed.more, Replays}
-use Rattle.commands.specs.Steps.{Calls, Goes, Reaches}
+use Rattle.commands.specs.declared.links.Next.{Next}
+use Rattle.commands.specs.Steps.{Calls, Comes, Goes, Reaches}
 use Rattle.commands.proofs.Lines.{appends_none, appends_both}
 
 pub begins : (s : State) (input before : Option (List ℕ)) → Goes s s input input before before
@@ -25,6 +26,13 @@ pub calls_line : (s s' t : State) (q : Option (LinkCall × List ℕ)) (line piec
 calls_line s s' t q line piece a b e same after call =
     subst (λ (l : List ℕ). Calls s (link_asked (words_in l)) t a b) same
     (subst (λ (x : Option (LinkCall × List ℕ)). Calls s x t a b) e (subst (λ (u : State). Calls s q u a b) after call))
+
+-- a line that asks for nothing to be made is answered, and one that does once that is told
+pub comes_none : (s : State) (q : Option (LinkCall × List ℕ)) (s' : State) (next : Option Next) (a b : Option (List ℕ)) → next ≡ None → Comes s q s' next a b → Calls s q s' a b
+comes_none s q s' next a b e = subst (λ (o : Option Next). Comes s q s' o a b) e
+
+pub comes_some : (s : State) (q : Option (LinkCall × List ℕ)) (s' : State) (next : Option Next) (n : Next) (a b : Option (List ℕ)) → next ≡ Some n → Comes s q s' next a b → Comes s q s' (Some n) a b
+comes_some s q s' next n a b e = subst (λ (o : Option Next). Comes s q s' o a b) e
 
 -- one more line is answered
 pub goes :
@@ -90,7 +98,7 @@ pub reaches :
     → Reaches makes s' next left left' now now'
     → Reaches makes s next input left' before now'
 reaches makes s s' None input left left' before now now' g h = replays_both s s' input left before now now' g h
-reaches makes s s' (Some n) input left left' before now now' g h = goes_both s s' (makes n) input left left' before now now' g h
+reaches makes s s' (Some n) input left left' before now now' g h = λ told w. goes_both s s' (makes n) input left left' before now told g (h told w)
 
 -- what is next, by another name
 pub reaches_next :

@@ -1,5 +1,5 @@
 -- A replay on its way: from a state with some input left to a later one. Assumes nothing.
-use Rattle.std.specs.Prelude.{◌≡◌, ℕ, ◌-◌, min, List, ◌++◌, Option, None, Some, IfSome, Result, Ok, Err}
+use Rattle.std.specs.Prelude.{◌≡◌, ℕ, ◌-◌, min, List, ◌++◌, Option, None, Some, IfSome, Result, Ok, Err, codes}
 use Rattle.std.specs.Io.KnownBytes.{Appends}
 use Rattle.std.specs.Option.{option_map}
 use Rattle.tile.specs.declared.fault.Fault.{Fault}
@@ -32,13 +32,18 @@ abbrev pub makes : State → Next → State
 makes s (Link opening) = opens s.room opening
 makes s Layer = record s { link = trim_model s.link; layers = s.layers - 1 }
 
-abbrev pub made : State → Option Next → State
-made s None = s
-made s (Some next) = makes s next
-
 -- a line's answer is written, and its state reached
 abbrev pub Calls : State → Option (LinkCall × List ℕ) → State → Option (List ℕ) → Option (List ℕ) → Type 0
 Calls s asked s' before after = Appends before after (step s asked).0 × ((step s asked).1 ≡ s')
+
+-- what is told of a link or a layer once it is there
+abbrev pub made : List ℕ
+made = line_of (codes "ok")
+
+-- a line's answer is written; where it asks for a link or a layer, it is answered once that is told
+abbrev pub Comes : State → Option (LinkCall × List ℕ) → State → Option Next → Option (List ℕ) → Option (List ℕ) → Type 0
+Comes s asked s' None before after = Calls s asked s' before after
+Comes s asked s' (Some next) before after = (now : Option (List ℕ)) → Appends after now made → Calls s asked (makes s' next) before now
 
 -- a read is told, and leaves the link as it is
 abbrev pub Reads : LinkModel → LinkModel → ℕ → ℕ → ℕ → Option (List ℕ) → Option (List ℕ) → Type 0
@@ -51,7 +56,11 @@ Goes s s' input left before after =
     (λ text. (done : List ℕ) × (rest : List ℕ) × (left ≡ Some rest) × Appends before after done
     × ((out : List ℕ) → Replayed s' rest out → Replayed s text (done ++ out)))
 
--- the lines are answered up to one that asks for what is next, or all
+-- the lines are answered, all or up to one that asks for what is next, which is answered once that is told
 abbrev pub Reaches : {N : Type 0} → (N → State) → State → Option N → Option (List ℕ) → Option (List ℕ) → Option (List ℕ) → Option (List ℕ) → Type 0
 Reaches makes s None input left before after = Replays s input before after
-Reaches makes s (Some next) input left before after = Goes s (makes next) input left before after
+Reaches makes s (Some next) input left before after = (now : Option (List ℕ)) → Appends after now made → Goes s (makes next) input left before now
+
+-- what was made is told, and then the lines are answered from the state with it
+abbrev pub Begins : {N : Type 0} → (N → State) → State → Option N → Option (List ℕ) → Option (List ℕ) → Option (List ℕ) → Option (List ℕ) → Type 0
+Begins makes s next input left before after = (now : Option (List ℕ)) × Appends before now made × Reaches makes s next input left now after

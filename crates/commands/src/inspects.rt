@@ -21,6 +21,7 @@ pub fn inspect_lines<R: BufRead + Drop, W: Write>(
     for line in input.split(heap, b'\n') {
         let text = line_text(heap, line?.as_slice())?;
         output.write_all(text.as_bytes())?;
+        output.flush()?;
     }
     Ok(())
 }
@@ -38,10 +39,12 @@ pub fn inspect_file<W: Write>(
         Ok(bytes) => {
             let text = dump_text(heap, bytes.as_slice())?;
             output.write_all(text.as_bytes())?;
+            output.flush()?;
             Ok(())
         }
         Err(error) => {
             writeln!(output, "cannot read {path}: {error}")?;
+            output.flush()?;
             Err(error.into())
         }
     }

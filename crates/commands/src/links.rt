@@ -2,11 +2,10 @@
 ghost use Rattle.std.specs.Prelude.{◌≡◌, ℕ, suc, ◌<◌, true, Some, IfSome, IfOk, OnOk, codes, nat_lt};
 ghost use Rattle.std.specs.Io.Iter.{split_byte, split_known_bytes, pieces_left_to_read};
 ghost use Rattle.std.specs.Io.KnownBytes.{Appends};
-ghost use Rattle.console.specs.Reports.{line_of};
 ghost use Rattle.request.specs.Requests.{told};
 ghost use Rattle.commands.specs.declared.links.Next.TheVariants.{Layer};
 ghost use Rattle.commands.specs.Replay.{Replays, message_text, start};
-ghost use Rattle.commands.specs.Steps.{Calls, Reaches, Reads, at, made, makes, opens, outcome};
+ghost use Rattle.commands.specs.Steps.{Begins, Comes, Reaches, Reads, at, makes, opens, outcome};
 
 use boxes::cell::CellLink;
 use boxes::line::LineLink;
@@ -77,7 +76,7 @@ impl fmt::Display for Message<'_> {
     }
 }
 
-// Tells the answer to a call, or its refusal.
+// Tells the answer to a call, or its refusal, and writes it out.
 fn tell<T: fmt::Display + Drop, W: Write>(
     output: &mut W,
     answer: Result<T, Fault>,
@@ -88,6 +87,7 @@ fn tell<T: fmt::Display + Drop, W: Write>(
         Ok(told) => writeln!(output, "{told}")?,
         Err(fault) => writeln!(output, "{fault}")?,
     }
+    output.flush()?;
     Ok(())
 }
 
@@ -96,14 +96,6 @@ fn tell_done<W: Write>(output: &mut W, answer: Result<(), Fault>) -> anyhow::Res
     ensures { OnOk result (IfSome (outcome (λ _. Some (codes "ok")) answer) (Appends (W.contents output.old) (W.contents output.new))) }
 {
     tell(output, answer.map(|()| "ok"))
-}
-
-// Tells that a link or a layer is made.
-fn make<W: Write>(output: &mut W, next: Next) -> anyhow::Result<Option<Next>>
-    ensures { IfOk result (λ made. (made ≡ Some next) × Appends (W.contents output.old) (W.contents output.new) (line_of (codes "ok"))) }
-{
-    tell(output, Ok("ok"))?;
-    Ok(Some(next))
 }
 
 // Where memory comes from, and how long an area reads bring.
@@ -130,7 +122,7 @@ impl Desk {
         }
     }
 
-    // Makes the call that a line asks for, or tells what is to be made.
+    // Makes the call that a line asks for, or answers what is to be made, which is told once it is there.
     fn call<L: Link, W: Write>(
         &mut self,
         link: &mut L,
@@ -139,7 +131,7 @@ impl Desk {
         output: &mut W,
     ) -> anyhow::Result<Option<Next>>
         ensures lays { IfOk result (λ next. next ≡ Some Layer → more ≡ true) }
-        ensures step { IfOk result (λ next. (layers : ℕ) → more ≡ nat_lt 0 layers → Calls (at (L.model link.old) layers self.old.room) (Some (told asked.now)) (made (at (L.model link.new) layers self.new.room) next) (W.contents output.old) (W.contents output.new)) }
+        ensures step { IfOk result (λ next. (layers : ℕ) → more ≡ nat_lt 0 layers → Comes (at (L.model link.old) layers self.old.room) (Some (told asked.now)) (at (L.model link.new) layers self.new.room) next (W.contents output.old) (W.contents output.new)) }
     {
         match (asked.call, asked.numbers.as_slice()) {
             (LinkCall::Send, &[from, to, ref words @ ..]) => {
@@ -158,12 +150,12 @@ impl Desk {
                 tell(output, Ok("ok"))?;
             }
             (LinkCall::Trim, []) if !more => tell(output, Ok("no more than four layers"))?,
-            (LinkCall::Trim, []) => return make(output, Next::Layer),
+            (LinkCall::Trim, []) => return Ok(Some(Next::Layer)),
             (LinkCall::Cell, &[ranks, longest]) => {
-                return make(output, Next::Link(Boxes::Cells.sized(ranks, longest)));
+                return Ok(Some(Next::Link(Boxes::Cells.sized(ranks, longest))));
             }
             (LinkCall::Line, &[ranks, longest]) => {
-                return make(output, Next::Link(Boxes::Line.sized(ranks, longest)));
+                return Ok(Some(Next::Link(Boxes::Line.sized(ranks, longest))));
             }
             _ => tell(output, Ok(NO_CALL))?,
         }
@@ -203,13 +195,13 @@ impl<R: BufRead + Drop> Replay<R> {
         Ok(None)
     }
 
-    // Makes a link over memory of its own and the calls on it, up to one that makes another link.
+    // Makes a link over memory of its own, tells that it is there, and makes the calls on it, up to one that makes another link.
     fn on_link<W: Write>(
         &mut self,
         opening: Opening,
         output: &mut W,
     ) -> anyhow::Result<Option<Opening>>
-        ensures steps { IfOk result (λ next. Reaches (opens self.new.desk.room) (opens self.old.desk.room opening) next (split_known_bytes R.remaining self.old.lines) (split_known_bytes R.remaining self.new.lines) (W.contents output.old) (W.contents output.new)) }
+        ensures steps { IfOk result (λ next. Begins (opens self.new.desk.room) (opens self.old.desk.room opening) next (split_known_bytes R.remaining self.old.lines) (split_known_bytes R.remaining self.new.lines) (W.contents output.old) (W.contents output.new)) }
         ensures nearer { IfOk result (λ next. IfSome next (λ _. pieces_left_to_read self.new.lines < pieces_left_to_read self.old.lines)) }
     {
         let Opening {
@@ -219,6 +211,7 @@ impl<R: BufRead + Drop> Replay<R> {
         } = opening;
         let (few, short) = (ranks.min(32) as usize, longest.min(AREA) as usize);
         let mut words = vec![in self.desk.heap; 0; few * few * (short + 2)]?;
+        tell(output, Ok("ok"))?;
         let words = words.as_mut_slice();
         match boxes {
             Boxes::Cells => Four::on_pile(self, &mut CellLink::new(ranks, longest, words), output),
@@ -277,7 +270,10 @@ impl<M: Layers> Layers for OneMore<M> {
     ) -> anyhow::Result<Option<Opening>> {
         match replay.calls(link, true, output)? {
             Some(Next::Link(opening)) => Ok(Some(opening)),
-            Some(Next::Layer) => M::on_pile(replay, &mut Trim::new(link), output),
+            Some(Next::Layer) => {
+                tell(output, Ok("ok"))?;
+                M::on_pile(replay, &mut Trim::new(link), output)
+            }
             None => Ok(None),
         }
     }

@@ -1,5 +1,5 @@
 // Shows plans as lines or as a picture.
-ghost use Rattle.std.specs.Prelude.{OnOk, IfOk, ◌≤◌, List, ℕ, map, string_bytes};
+ghost use Rattle.std.specs.Prelude.{OnOk, IfOk, IfSome, ◌≤◌, List, ℕ, map, string_bytes};
 ghost use Rattle.std.specs.List.{flat_map};
 ghost use Rattle.std.specs.Io.KnownBytes.{Appends};
 ghost use Rattle.chart.specs.Lines.{transfer_line};
@@ -22,8 +22,8 @@ use plan::transfer::Transfer;
 use plan::transfers::list_transfers;
 use request::plans::{Maker, plan_request};
 use std::alloc::Global;
-use std::io;
 use std::io::{BufRead, Write};
+use std::{fmt, io};
 use tile::fault::Fault;
 
 // An entry of the transfer list before it is written.
@@ -45,6 +45,14 @@ fn transfers_of<P: Plan>(heap: Global, plan: &P) -> anyhow::Result<Vec<Transfer>
     Ok(area)
 }
 
+// Writes a line of an answer, and writes it out.
+fn put<T: fmt::Display + Drop, W: Write>(output: &mut W, line: T) -> io::Result<()>
+    ensures bytes { OnOk result (IfSome (T.output line) (Appends (W.contents output.old) (W.contents output.new))) }
+{
+    write!(output, "{line}")?;
+    output.flush()
+}
+
 // A line for each rank in a round.
 // Stays: a plan and where it is written go side by side, as in any `write`, and a struct of the two is no plainer.
 fn write_round<P: Plan, W: Write>(plan: &P, output: &mut W, round: u32) -> anyhow::Result<()>
@@ -54,12 +62,15 @@ fn write_round<P: Plan, W: Write>(plan: &P, output: &mut W, round: u32) -> anyho
     for rank in 0..plan.ranks() {
         let group = plan.group(round, rank)?;
         let span = plan.span(round, rank)?;
-        output.write_fmt(RankLine {
-            round,
-            rank,
-            group,
-            span,
-        })?;
+        put(
+            output,
+            RankLine {
+                round,
+                rank,
+                group,
+                span,
+            },
+        )?;
     }
     Ok(())
 }
@@ -70,7 +81,7 @@ fn write_sends<P: Plan, W: Write>(plan: &P, output: &mut W) -> anyhow::Result<()
 {
     for rank in 0..plan.ranks() {
         let pixels = sends(plan, rank)?;
-        output.write_fmt(SendsLine { rank, pixels })?;
+        put(output, SendsLine { rank, pixels })?;
     }
     Ok(())
 }
@@ -80,9 +91,12 @@ fn write_transfers<W: Write>(transfers: &[Transfer], output: &mut W) -> io::Resu
     ensures { OnOk result (Appends (W.contents output.old) (W.contents output.new) (flat_map transfer_line transfers.now)) }
 {
     for transfer in transfers {
-        output.write_fmt(TransferLine {
-            transfer: *transfer,
-        })?;
+        put(
+            output,
+            TransferLine {
+                transfer: *transfer,
+            },
+        )?;
     }
     Ok(())
 }
@@ -91,16 +105,19 @@ fn write_transfers<W: Write>(transfers: &[Transfer], output: &mut W) -> io::Resu
 fn write_lines<P: Plan, W: Write>(heap: Global, plan: &P, output: &mut W) -> anyhow::Result<()>
     ensures { OnOk result ((text : List ℕ) × Shows (P.model plan.now) Lines text × Appends (W.contents output.old) (W.contents output.new) text) }
 {
-    let transfers = transfers_of(heap, plan)?;
     let rounds = plan.rounds();
-    output.write_fmt(PlanLine {
-        ranks: plan.ranks(),
-        pixels: plan.pixels(),
-        rounds,
-    })?;
+    put(
+        output,
+        PlanLine {
+            ranks: plan.ranks(),
+            pixels: plan.pixels(),
+            rounds,
+        },
+    )?;
     for round in 0..=rounds {
         write_round(plan, output, round)?;
     }
+    let transfers = transfers_of(heap, plan)?;
     write_transfers(transfers.as_slice(), output)?;
     write_sends(plan, output)?;
     Ok(())
@@ -115,11 +132,14 @@ fn draw_ranks<P: Plan, W: Write>(plan: &P, output: &mut W) -> io::Result<()>
             x: 14,
             y: row_top(rank) + 11,
         };
-        output.write_fmt(Label {
-            start,
-            word: "rank",
-            number: rank,
-        })?;
+        put(
+            output,
+            Label {
+                start,
+                word: "rank",
+                number: rank,
+            },
+        )?;
     }
     Ok(())
 }
@@ -130,21 +150,30 @@ fn draw_column<P: Plan, W: Write>(plan: &P, output: &mut W, round: u32) -> anyho
     ensures { OnOk result (Appends (W.contents output.old) (W.contents output.new) (column (P.model plan.now) round)) }
 {
     let (left, pixels) = (column_left(round), plan.pixels());
-    output.write_fmt(Label {
-        start: Point { x: left, y: 24 },
-        word: "round",
-        number: round,
-    })?;
+    put(
+        output,
+        Label {
+            start: Point { x: left, y: 24 },
+            word: "round",
+            number: round,
+        },
+    )?;
     for rank in 0..plan.ranks() {
         let span = plan.span(round, rank)?;
         let (x, y) = (left + across(span.start, pixels), row_top(rank));
-        output.write_fmt(Frame {
-            corner: Point { x: left, y },
-        })?;
-        output.write_fmt(Bar {
-            corner: Point { x, y },
-            width: across(span.len, pixels),
-        })?;
+        put(
+            output,
+            Frame {
+                corner: Point { x: left, y },
+            },
+        )?;
+        put(
+            output,
+            Bar {
+                corner: Point { x, y },
+                width: across(span.len, pixels),
+            },
+        )?;
     }
     Ok(())
 }
@@ -163,7 +192,7 @@ fn draw_transfers<W: Write>(transfers: &[Transfer], output: &mut W) -> io::Resul
             x: column_left(transfer.round),
             y: row_top(transfer.receiver) + ROW / 2,
         };
-        output.write_fmt(Stroke { start, end })?;
+        put(output, Stroke { start, end })?;
     }
     Ok(())
 }
@@ -172,16 +201,19 @@ fn draw_transfers<W: Write>(transfers: &[Transfer], output: &mut W) -> io::Resul
 fn write_picture<P: Plan, W: Write>(heap: Global, plan: &P, output: &mut W) -> anyhow::Result<()>
     ensures { OnOk result ((text : List ℕ) × Shows (P.model plan.now) Picture text × Appends (W.contents output.old) (W.contents output.new) text) }
 {
-    let transfers = transfers_of(heap, plan)?;
     let rounds = plan.rounds();
-    output.write_fmt(PictureHead {
-        width: column_left(rounds) + COLUMN + EDGE,
-        height: row_top(plan.ranks()) + ROW,
-    })?;
+    put(
+        output,
+        PictureHead {
+            width: column_left(rounds) + COLUMN + EDGE,
+            height: row_top(plan.ranks()) + ROW,
+        },
+    )?;
     draw_ranks(plan, output)?;
     for round in 0..=rounds {
         draw_column(plan, output, round)?;
     }
+    let transfers = transfers_of(heap, plan)?;
     draw_transfers(transfers.as_slice(), output)?;
     output.write_all(b"</svg>\n")?;
     Ok(())
@@ -233,6 +265,7 @@ pub fn plan_lines<R: BufRead + Drop, W: Write>(
 {
     for line in input.split(heap, b'\n') {
         answer(heap, Form::Lines, line?.as_slice(), output)?;
+        output.flush()?;
     }
     Ok(())
 }
@@ -252,5 +285,6 @@ pub fn plan_words<W: Write>(heap: Global, words: &[String], output: &mut W) -> a
         }
     }
     answer(heap, form, line.as_bytes(), output)?;
+    output.flush()?;
     Ok(())
 }

@@ -1,5 +1,5 @@
 -- Words that ask for nothing. Assumes nothing.
-use Rattle.std.proofs.Common.{◌≡◌, ◌≢◌, ℕ, ◌-◌, ◌≤◌, List, [], ◌∷◌, length, get_or, drop, map, codes, String, Global, string_bytes, sym, ap, ◌∙◌, ⊎_elim, arith, length-drop}
+use Rattle.std.proofs.Common.{◌≡◌, ◌≢◌, ℕ, ◌-◌, ◌≤◌, List, [], ◌∷◌, length, get_or, drop, map, codes, sym, ap, ◌∙◌, ⊎_elim, arith, length-drop}
 use Rattle.std.proofs.lemmas.List.{drop_more, length-map}
 use Rattle.console.specs.Requests.{AsksNothing}
 
@@ -29,18 +29,18 @@ module _ (all : List (List ℕ)) (word : List ℕ) (ws : List (List ℕ)) (is : 
   )
 
 -- the words of a command line, of which the first is at hand
-module _ (words : List (String Global)) (first : String Global) (word : List ℕ) (some : 1 ≤ length words) (here : first ≡ get_or words 0 first) (is : word ≡ string_bytes first) where
+module _ {W : Type 0} (text : W → List ℕ) (words : List W) (first : W) (word : List ℕ) (some : 1 ≤ length words) (here : first ≡ get_or words 0 first) (is : word ≡ text first) where
   abbrev rest : List (List ℕ)
-  rest = map string_bytes (drop 1 words)
+  rest = map text (drop 1 words)
 
   abbrev Unasked : Type 0
-  Unasked = ((ws : List (List ℕ)) × (map string_bytes words ≡ word ∷ ws)) × AsksNothing (map string_bytes words)
+  Unasked = ((ws : List (List ℕ)) × (map text words ≡ word ∷ ws)) × AsksNothing (map text words)
 
-  begins : map string_bytes words ≡ word ∷ rest
-  begins = ap (map string_bytes) (drop_more words 0 first (omega arith)) ∙ ap (λ w. w ∷ rest) (ap string_bytes (sym here) ∙ sym is)
+  begins : map text words ≡ word ∷ rest
+  begins = ap (map text) (drop_more words 0 first (omega arith)) ∙ ap (λ w. w ∷ rest) (ap text (sym here) ∙ sym is)
 
   long : length rest ≡ length words - 1
-  long = length-map (drop 1 words) string_bytes ∙ length-drop 1 words
+  long = length-map (drop 1 words) text ∙ length-drop 1 words
 
   pub other : word ≢ codes "help" → word ≢ codes "inspect" → word ≢ codes "plan" → word ≢ codes "link" → Unasked
   other help inspect plan link = ((rest, begins), nothing _ word rest begins (λ e. absurd (help e)) (λ e. absurd (inspect e)) plan (λ e. absurd (link e)))

@@ -1,5 +1,5 @@
 -- What the words behind the program's name ask for. Assumes nothing.
-use Rattle.std.specs.Prelude.{◌≡◌, ℕ, ◌⊎◌, List, [], ◌∷◌, map, codes, string_bytes}
+use Rattle.std.specs.Prelude.{◌≡◌, ℕ, ◌⊎◌, List, [], ◌∷◌, map, codes}
 use Rattle.console.specs.declared.command_line.Request.{Request}
 use Rattle.console.specs.declared.command_line.Request.TheVariants.{Help, InspectLines, InspectFile, Plan, Link, Unknown}
 
@@ -32,11 +32,12 @@ AsksNothing words =
     × ((asked : List (List ℕ)) → AsksPlan words asked → ⊥)
     × (AsksLink words → ⊥)
 
--- the request that the words make
-abbrev pub Asked : List (List ℕ) → Request → Type 0
-Asked words Help = AsksHelp words
-Asked words InspectLines = AsksInspectLines words
-Asked words (InspectFile path) = AsksInspectFile words path.now
-Asked words (Plan asked) = AsksPlan words (map string_bytes asked.now)
-Asked words Link = AsksLink words
-Asked words (Unknown word) = ((rest : List (List ℕ)) × (words ≡ word.now ∷ rest)) × AsksNothing words
+-- the request that the words make, where each word has a text
+module _ {W : Type 0} (text : W → List ℕ) where
+  abbrev pub Asked : List (List ℕ) → Request W → Type 0
+  Asked words Help = AsksHelp words
+  Asked words InspectLines = AsksInspectLines words
+  Asked words (InspectFile path) = AsksInspectFile words path.now
+  Asked words (Plan asked) = AsksPlan words (map text asked.now)
+  Asked words Link = AsksLink words
+  Asked words (Unknown word) = ((rest : List (List ℕ)) × (words ≡ word.now ∷ rest)) × AsksNothing words

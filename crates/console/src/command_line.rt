@@ -1,22 +1,24 @@
 // What the words behind the program's name ask for.
-ghost use Rattle.std.specs.Prelude.{map, string_bytes};
+ghost use Rattle.std.specs.Prelude.{map};
 ghost use Rattle.console.specs.Requests.{Asked};
 
+use std::convert::AsStr;
+
 // A request, or the first word of what is none.
-#[derive(Clone, Copy)]
-pub enum Request<'a> {
+#[derive_where(Clone, Copy)]
+pub enum Request<'a, W = String> {
     Help,
     InspectLines,
     InspectFile(&'a str),
     // What stands behind `plan`.
-    Plan(&'a [String]),
+    Plan(&'a [W]),
     Link,
     Unknown(&'a str),
 }
 
 // The request that the words make.
-pub fn request_of(words: &[String]) -> Request<'_>
-    ensures { Asked (map string_bytes words.now) result }
+pub fn request_of<W: AsStr>(words: &[W]) -> Request<'_, W>
+    ensures { Asked W.text (map W.text words.now) result }
 {
     let [first, rest @ ..] = words else {
         return Request::Help;

@@ -42,7 +42,10 @@ pub fn body_words(body: &[u8]) -> BodyWords<'_>
 pub fn body_word(body: &[u8], index: usize) -> Option<u32>
     ensures { result ≡ slice_get (words_in body.now) index }
 {
-    body_words(body).nth(index)
+    if index >= body.len() / 4 {
+        return None;
+    }
+    body_words(&body[4 * index..]).next()
 }
 
 // Whether the body spells only zero words, as blank alone does.

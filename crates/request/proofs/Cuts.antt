@@ -1,9 +1,10 @@
 -- Words cut off one by one. Assumes nothing.
-use Rattle.std.proofs.Common.{◌≡◌, ℕ, suc, ◌+◌, ◌-◌, ◌<◌, ◌≤◌, true, false, if◌then◌else◌, not, List, [], ◌∷◌, length, get_or, take, drop, position, Some, None, sym, refl, ap, ◌∙◌, subst, ⊎_elim, arith, length-drop}
+use Rattle.std.proofs.Common.{◌≡◌, ℕ, suc, ◌+◌, ◌-◌, ◌<◌, ◌≤◌, Bool, true, false, cond, if◌then◌else◌, not, nat_lt, unwrap_or, length-take, List, [], ◌∷◌, length, get_or, take, drop, position, Some, None, sym, refl, ap, ◌∙◌, subst, ⊎_elim, arith, length-drop}
 use Rattle.std.specs.List.{position_or_len, prefix_len, take_while}
 use Rattle.std.proofs.lemmas.List.Folds.{length-prefix_len}
 use Rattle.std.proofs.lemmas.List.{drop_more}
 use Rattle.std.proofs.lemmas.List.Quantifiers.{position-Some}
+use Rattle.std.proofs.lemmas.Bool.Decides.{nat_tests}
 use Rattle.std.proofs.lemmas.Bool.{cond-true, cond-false, cases_Bool, not-true, true≢false}
 use Rattle.std.proofs.lemmas.Grind.{common_steps}
 use Rattle.request.specs.Words.{at_gap, is_letter, is_space, onto, words_in}
@@ -27,6 +28,16 @@ module _ (c : ℕ) (cs : List ℕ) where
 
   no_letter : is_space c ≡ true → letters (c ∷ cs) ≡ 0
   no_letter e = ap (λ b. if not b then 1 + letters cs else 0) e
+
+-- a word that begins the text ends at the first white space, or with the text
+pub word_end : (l : List ℕ) → unwrap_or (position is_space l) (length l) ≡ length (take_while is_letter l)
+word_end l = by (nat_lt (letters l) (length l)) refl
+  where
+    by : (b : Bool) → nat_lt (letters l) (length l) ≡ b → unwrap_or (cond b (Some (letters l)) None) (length l) ≡ length (take_while is_letter l)
+    by true e = sym (length-prefix_len is_letter l)
+    by false e =
+        let none : length l ≤ letters l = grind (arith, nat_tests) in
+        omega (arith, length-prefix_len is_letter l, length-take (letters l) l)
 
 -- white space at the front has no word
 past_spaces : (l : List ℕ) → words_in (drop (spaces l) l) ≡ words_in l

@@ -17,8 +17,10 @@ pub fn number_of(word: &[u8]) -> Option<u32>
     }
     let mut value: u32 = 0;
     for c in word {
-        let digit = char::from(*c).to_digit(10)?;
-        value = value.checked_mul(10)?.checked_add(digit)?;
+        if !c.is_ascii_digit() {
+            return None;
+        }
+        value = value.checked_mul(10)?.checked_add(u32::from(*c - b'0'))?;
     }
     Some(value)
 }

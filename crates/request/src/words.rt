@@ -15,7 +15,7 @@ pub struct Cut<'a, T> {
 pub fn is_space(c: u8) -> bool
     ensures { result ≡ is_space c }
 {
-    matches!(c, b' ' | b'\t' | b'\n' | b'\r')
+    c == b' ' || c == b'\t' || c == b'\n' || c == b'\r'
 }
 
 // Where the first word begins, if there is a word.
@@ -25,11 +25,18 @@ fn word_start(text: &[u8]) -> Option<usize>
     text.iter().position(|c| !is_space(*c))
 }
 
+// Where the first white space stands, if there is any.
+fn gap(text: &[u8]) -> Option<usize>
+    ensures { result ≡ position is_space text.now }
+{
+    text.iter().position(|c| is_space(*c))
+}
+
 // Where a word that begins the text ends.
 fn word_end(text: &[u8]) -> usize
     ensures { result ≡ length (take_while is_letter text.now) }
 {
-    text.iter().take_while(|c| !is_space(**c)).count()
+    gap(text).unwrap_or(text.len())
 }
 
 // The first word of a text with what stands behind it, if there is a word.

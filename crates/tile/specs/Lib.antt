@@ -1,4 +1,5 @@
 pub mod Answers
+pub mod Bitwise
 pub mod Cover
 pub mod Examples
 pub mod Faults

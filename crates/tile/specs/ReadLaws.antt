@@ -1,5 +1,5 @@
 -- Words that are read. Assumes nothing.
-use Rattle.std.specs.Prelude.{◌≡◌, ℕ, Bool, true, false, List, Some, None, nat_eq, if◌then◌else◌, refl}
+use Rattle.std.specs.Prelude.{◌≡◌, ◌≢◌, ℕ, Bool, true, false, List, Option, Some, None, nat_eq, if◌then◌else◌, refl}
 use Rattle.std.proofs.Common.{sym, ap, ◌∙◌}
 use Rattle.std.proofs.lemmas.Bool.{cond-true}
 use Rattle.std.proofs.lemmas.Slice.Eq.{bytes_eq-Decides}
@@ -19,6 +19,14 @@ module _ {P : Type 0} (words : P → List ℕ) (of_words : List ℕ → P) where
       only : (same : Bool) → (same ≡ true → words (of_words ws) ≡ ws) → (if same then Some (of_words ws) else None) ≡ Some p → words p ≡ ws
       only true told e = let q : of_words ws ≡ p = cc in ap words (sym q) ∙ told refl
       only false told e = cc
+
+  -- words of which no pixel is made are not read
+  pub reading-none : (ws : List ℕ) → (words (of_words ws) ≢ ws) → None ≡ reading words of_words ws
+  reading-none ws h = none (pointwise nat_eq (words (of_words ws)) ws) (bytes_eq-Decides (words (of_words ws)) ws).0
+    where
+      none : (same : Bool) → (same ≡ true → words (of_words ws) ≡ ws) → ◌≡◌ {A = Option P} None (if same then Some (of_words ws) else None)
+      none true told = absurd (h (told refl))
+      none false told = refl
 
   -- words that the pixel made of them has are read
   pub reading-some : (ws : List ℕ) (p : P) → ((p : P) → of_words (words p) ≡ p) → words p ≡ ws → Some p ≡ reading words of_words ws

@@ -47,10 +47,6 @@ impl Pixel for Coverage {
 
     ghost model = { coverage };
 
-    ghost means = { λ r p e. e };
-
-    ghost lies_as = { λ p r e. e };
-
     ghost same_number = { refl };
 
     ghost same_width = { refl };
@@ -70,6 +66,14 @@ impl Pixel for Coverage {
             mask: self.mask | back.mask,
             planes: array::from_fn(|k| self.planes[k] | (back.planes[k] & outside)),
         }
+    }
+
+    fn from_record(plain: CoverageRecord) -> Coverage {
+        Coverage::from(plain)
+    }
+
+    fn to_record(self) -> CoverageRecord {
+        CoverageRecord::from(self)
     }
 
     fn write(self, out: &mut [u32]) -> Result<(), Fault> {

@@ -5,9 +5,9 @@ ghost use Rattle.tile.specs.Words.{Written};
 
 use crate::fault::Fault;
 
-pub trait Pixel: Copy + From<Self::Record> {
+pub trait Pixel: Copy {
     // A pixel as it lies in memory: every record stands for one pixel.
-    type Record: Copy + From<Self>;
+    type Record: Copy;
 
     // The kind's number.
     // Stays: the trait is open, and an enum of the kinds that have names would ask more of a kind of its own.
@@ -29,6 +29,15 @@ pub trait Pixel: Copy + From<Self::Record> {
     // This pixel in front of `back`.
     fn join(self, back: Self) -> Self
         ensures { result ≡ model.join self back };
+
+    // The pixel that a record stands for.
+    // Stays: From as a supertrait would ask more of a kind of its own, as of one whose records are another kind's.
+    fn from_record(plain: Self::Record) -> Self
+        ensures { result ≡ model.meaning plain };
+
+    // A record that stands for the pixel.
+    fn to_record(self) -> Self::Record
+        ensures { result ≡ model.plain self };
 
     // Puts the pixel's words first in `out`; refused where `out` is too short.
     fn write(self, out: &mut [u32]) -> Result<(), Fault>
@@ -52,26 +61,6 @@ pub trait Pixel: Copy + From<Self::Record> {
     {
         Self::WORDS
     }
-
-    // The pixel that a record stands for.
-    final fn from_record(plain: Self::Record) -> Self
-        ensures { result ≡ model.meaning plain }
-    {
-        Self::from(plain)
-    }
-
-    // A record that stands for the pixel.
-    final fn to_record(self) -> Self::Record
-        ensures { result ≡ model.plain self }
-    {
-        Self::Record::from(self)
-    }
-
-    // A record becomes the pixel that it stands for.
-    ghost means: { (r : Self.Record) (p : Self) → Self.from_gives r p → p ≡ model.meaning r };
-
-    // A pixel becomes a record that stands for it.
-    ghost lies_as: { (p : Self) (r : Self.Record) → Self.Record.from_gives p r → r ≡ model.plain p };
 
     // The constants are those of the kind's rules.
     ghost same_number: { KIND ≡ model.number };

@@ -45,10 +45,6 @@ impl Pixel for Nearest {
 
     ghost model = { nearest };
 
-    ghost means = { λ r p e. e };
-
-    ghost lies_as = { λ p r e. e };
-
     ghost same_number = { refl };
 
     ghost same_width = { refl };
@@ -68,6 +64,14 @@ impl Pixel for Nearest {
         } else {
             back
         }
+    }
+
+    fn from_record(plain: NearestRecord) -> Nearest {
+        Nearest::from(plain)
+    }
+
+    fn to_record(self) -> NearestRecord {
+        NearestRecord::from(self)
     }
 
     fn write(self, out: &mut [u32]) -> Result<(), Fault> {

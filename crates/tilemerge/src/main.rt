@@ -6,7 +6,7 @@ use commands::inspects::{inspect_file, inspect_lines};
 use commands::links::link_lines;
 use commands::plans::{plan_lines, plan_words};
 use console::command_line::{Request, request_of};
-use std::io::{BufReader, LineWriter, Printer, Stdin};
+use std::io::{BufReader, BufWriter, Printer, Stdin};
 use std::{env, io};
 
 const HELP: &str =
@@ -33,9 +33,9 @@ fn input(rt: &HostRuntime) -> io::Result<BufReader<Stdin>> {
     BufReader::new(rt.alloc(), rt.stdin())
 }
 
-// Standard output, written line by line.
-fn output(rt: &HostRuntime) -> io::Result<LineWriter<Printer<'_, HostRuntime>>> {
-    LineWriter::new(rt.alloc(), io::writer(rt))
+// Standard output; each command writes its answers out.
+fn output(rt: &HostRuntime) -> io::Result<BufWriter<Printer<'_, HostRuntime>>> {
+    BufWriter::with_capacity(rt.alloc(), 1024, io::writer(rt))
 }
 
 fn main(rt: HostRuntime) -> anyhow::Result<()> {

@@ -2,7 +2,7 @@ use Rattle.std.proofs.Common.{ℕ, List, string_bytes, ap, subst, ◌∙◌}
 use Rattle.std.specs.Io.Iter.{split_byte, split_known_bytes}
 use Rattle.std.specs.Io.KnownBytes.{Appends}
 use Rattle.console.specs.Reports.{AnswerTo}
-use Rattle.commands.proofs.Lines.{begins, goes, ends, of_ok}
+use Rattle.commands.proofs.Lines.{begins, ends, flushed, goes, of_ok}
 use Rattle.commands.proofs.inspects.inspect_lines.Goals as goal
 
 pub loop-line-init : goal.loop-line-init
@@ -18,7 +18,7 @@ loop-line-preserved g c =
       c.in-Some.ensures.steps.1 ∙ c.loop-line.invariant.0,
       goes AnswerTo _ _ _ _ _ _ _ _ (string_bytes c.in_ok-text.text) c.loop-line.invariant.1 c.loop-line.invariant.0 told.0 told.1
           (subst (λ (l : List ℕ). AnswerTo l (string_bytes c.in_ok-text.text)) c.as_slice.ensures.value c.in_ok-text.ensures)
-          (subst (λ (l : List ℕ). Appends (g.W.Write.contents c.loop-line.output) (g.W.Write.contents c.write_all.new.self) l) c.as_bytes.ensures.value c.in_ok-write_all.ensures.bytes),
+          (flushed _ _ _ _ (subst (λ (l : List ℕ). Appends (g.W.Write.contents c.loop-line.output) (g.W.Write.contents c.write_all.new.self) l) c.as_bytes.ensures.value c.in_ok-write_all.ensures.bytes) c.flush.ensures.bytes),
     )
 
 pub returns : goal.returns

@@ -3,4 +3,5 @@ use Rattle.commands.proofs.links.link_lines.Goals as goal
 
 pub loop-next-preserved : goal.loop-next-preserved
 loop-next-preserved g c =
-    reaches _ _ _ _ _ _ _ _ _ _ (reaches_next _ _ _ _ _ _ _ _ c.in-Some.is c.loop-next.invariant) c.in_ok-next-2.ensures.steps
+    let made = c.in_ok-next-2.ensures.steps in
+    reaches _ _ _ _ _ _ _ _ _ _ (reaches_next _ _ _ _ _ _ _ _ c.in-Some.is c.loop-next.invariant made.0 made.1) made.2

@@ -18,11 +18,11 @@ loop-rank-preserved g c =
     let pixels = c.pixels-pixels.ensures in
     let first = c.across.ensures ∙ (λ i. across (span i).start (pixels i)) in
     let size = c.across-in-loop-rank.ensures ∙ (λ i. across (span i).len (pixels i)) in
-    one_more _ _ _ c.loop-rank.rank _ _ c.loop-rank.invariant (appends_both _ _ _ _ _ c.in_ok-write_fmt-2.ensures.bytes c.in_ok-write_fmt-3.ensures.bytes)
+    one_more _ _ _ c.loop-rank.rank _ _ c.loop-rank.invariant (appends_both _ _ _ _ _ c.in_ok-put-2.ensures.bytes c.in_ok-put-3.ensures.bytes)
     (λ i. frame (left i) (y i) ++ bar (left i + first i) (y i) (size i))
 
 pub returns : goal.returns
 returns g c =
     appends_both _ _ _ _ _
-    (subst (λ (x : ℕ). Appends (g.W.Write.contents c.args.output.now) (g.W.Write.contents c.write_fmt.new.self) (label x 24 (codes "round") c.args.round)) c.column_left-left.ensures c.in_ok-write_fmt.ensures.bytes)
+    (subst (λ (x : ℕ). Appends (g.W.Write.contents c.args.output.now) (g.W.Write.contents c.put.new.output) (label x 24 (codes "round") c.args.round)) c.column_left-left.ensures c.in_ok-put.ensures.bytes)
     (all_below _ _ _ c.loop-rank.rank c.ranks-rank-end.result _ c.loop-rank.auto.rank-end c.loop-rank-test.false c.ranks-rank-end.ensures c.loop-rank.invariant)

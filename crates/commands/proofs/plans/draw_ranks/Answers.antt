@@ -10,7 +10,7 @@ loop-rank-init g c = appends_none _
 
 pub loop-rank-preserved : goal.loop-rank-preserved
 loop-rank-preserved g c =
-    one_more _ _ _ c.loop-rank.rank _ _ c.loop-rank.invariant c.in_ok-write_fmt.ensures.bytes
+    one_more _ _ _ c.loop-rank.rank _ _ c.loop-rank.invariant c.in_ok-put.ensures.bytes
     (ap (λ (y : ℕ). label 14 (y + 11) (codes "rank") c.loop-rank.rank) c.row_top.ensures)
 
 pub returns : goal.returns

@@ -14,7 +14,7 @@ loop-transfer-preserved g c =
     one_item _ _ _ transfer_stroke c.args.transfers.now c.loop-transfer.transfer-index
     (record { round = 0; sender = 0; receiver = 0; piece = record { start = 0; len = 0 } })
     c.loop-transfer-test.true c.loop-transfer.invariant
-    (appends_same _ _ _ _ (λ i. stroke (left i + 160) (c.row_top.ensures i + 7) (c.column_left-in-loop-transfer.ensures i) (c.row_top-in-loop-transfer.ensures i + 7)) c.in_ok-write_fmt.ensures.bytes)
+    (appends_same _ _ _ _ (λ i. stroke (left i + 160) (c.row_top.ensures i + 7) (c.column_left-in-loop-transfer.ensures i) (c.row_top-in-loop-transfer.ensures i + 7)) c.in_ok-put.ensures.bytes)
 
 pub returns : goal.returns
 returns g c = all_items _ _ transfer_stroke c.args.transfers.now c.loop-transfer.transfer-index c.loop-transfer-test.false c.loop-transfer.invariant

@@ -2,7 +2,7 @@ use Rattle.std.proofs.Common.{ℕ, List, ap, subst, ◌∙◌}
 use Rattle.std.specs.Io.Iter.{split_byte, split_known_bytes}
 use Rattle.commands.specs.Plans.{PlanReply}
 use Rattle.commands.specs.declared.form.Form.TheVariants.{Lines}
-use Rattle.commands.proofs.Lines.{begins, goes, ends, of_ok}
+use Rattle.commands.proofs.Lines.{begins, ends, flushed, goes, of_ok}
 use Rattle.commands.proofs.plans.plan_lines.Goals as goal
 
 pub loop-line-init : goal.loop-line-init
@@ -19,7 +19,7 @@ loop-line-preserved g c =
       c.in-Some.ensures.steps.1 ∙ c.loop-line.invariant.0,
       goes (PlanReply Lines) _ _ _ _ _ _ _ _ reply.0 c.loop-line.invariant.1 c.loop-line.invariant.0 told.0 told.1
           (subst (λ (l : List ℕ). PlanReply Lines l reply.0) c.as_slice.ensures.value reply.1)
-          reply.2,
+          (flushed _ _ _ _ reply.2 c.flush.ensures.bytes),
     )
 
 pub returns : goal.returns

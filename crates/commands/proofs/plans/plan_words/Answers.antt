@@ -4,6 +4,7 @@ use Rattle.std.specs.Str.{bytes_eq}
 use Rattle.commands.specs.declared.form.Form.{Form}
 use Rattle.commands.specs.declared.form.Form.TheVariants.{Picture}
 use Rattle.commands.specs.Plans.{PlanReply, form_in, line_in, svg}
+use Rattle.commands.proofs.Lines.{flushed}
 use Rattle.commands.proofs.Telling.{form_more, line_more, words_more}
 use Rattle.commands.proofs.plans.plan_words.Goals as goal
 use Rattle.commands.proofs.plans.plan_words.Goals.{then-eq, else-eq+in_ok-push_str+in_ok-push}
@@ -46,5 +47,5 @@ returns g c =
       reply.0,
       subst (λ (f : Form). PlanReply f (line_in (map string_bytes c.args.words.now)) reply.0) (c.loop-word.invariant.0 ∙ ap form_in all)
           (subst (λ (l : List ℕ). PlanReply c.loop-word.form l reply.0) (c.as_bytes.ensures.value ∙ c.loop-word.invariant.1 ∙ ap line_in all) reply.1),
-      reply.2,
+      flushed _ _ _ _ reply.2 c.flush.ensures.bytes,
     )

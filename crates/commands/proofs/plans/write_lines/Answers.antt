@@ -19,16 +19,16 @@ returns g c =
     let m = g.P.Plan.model c.args.plan.now in
     let xs = c.in_ok-transfers.transfers.items in
     let last : c.loop-round.round ≤ c.rounds-rounds.result = c.loop-round.auto.round-end in
-    let written : Appends (g.W.Write.contents c.write_fmt.new.self) (g.W.Write.contents c.loop-round-test.output) (below (suc m.rounds) (round_lines m)) =
+    let written : Appends (g.W.Write.contents c.put.new.output) (g.W.Write.contents c.loop-round-test.output) (below (suc m.rounds) (round_lines m)) =
     elim c.loop-round-test.branch [
       | else-loop-round-test w ↦ absurd (omega arith)
       | then-loop-round-test+in_ok-write_round+else-round-rounds w ↦
           let end : c.loop-round.round + 1 ≡ suc m.rounds = omega (arith, c.rounds-rounds.ensures) in
           let more = one_more _ _ _ c.loop-round.round _ _ c.loop-round.invariant w.in_ok-write_round.ensures refl in
-          subst (λ o. Appends (g.W.Write.contents c.write_fmt.new.self) (g.W.Write.contents o) (below (suc m.rounds) (round_lines m))) (sym w.output-is)
-          (subst (λ (n : ℕ). Appends (g.W.Write.contents c.write_fmt.new.self) (g.W.Write.contents w.write_round.new.output) (below n (round_lines m))) end more)
+          subst (λ o. Appends (g.W.Write.contents c.put.new.output) (g.W.Write.contents o) (below (suc m.rounds) (round_lines m))) (sym w.output-is)
+          (subst (λ (n : ℕ). Appends (g.W.Write.contents c.put.new.output) (g.W.Write.contents w.write_round.new.output) (below n (round_lines m))) end more)
     ] in
-    let head = appends_same _ _ _ _ (λ i. plan_line (c.ranks.ensures i) (c.pixels.ensures i) (c.rounds-rounds.ensures i)) c.in_ok-write_fmt.ensures.bytes in
+    let head = appends_same _ _ _ _ (λ i. plan_line (c.ranks.ensures i) (c.pixels.ensures i) (c.rounds-rounds.ensures i)) c.in_ok-put.ensures.bytes in
     let transfers = appends_same _ _ _ _ (ap (flat_map transfer_line) c.as_slice.ensures.value) c.in_ok-write_transfers.ensures in (
       plan_lines m xs,
       (xs, c.in_ok-transfers.ensures, refl),

@@ -30,7 +30,7 @@ returns g c =
     ] in
     let left = c.column_left.ensures ∙ ap column_left c.rounds-rounds.ensures in
     let top = c.row_top.ensures ∙ ap row_top c.ranks.ensures in
-    let head = appends_same _ _ _ _ (λ i. picture_head (left i + 160 + 70) (top i + 14)) c.in_ok-write_fmt.ensures.bytes in
+    let head = appends_same _ _ _ _ (λ i. picture_head (left i + 160 + 70) (top i + 14)) c.in_ok-put.ensures.bytes in
     let transfers = appends_same _ _ _ _ (ap (flat_map transfer_stroke) c.as_slice.ensures.value) c.in_ok-draw_transfers.ensures in (
       picture m xs,
       (xs, c.in_ok-transfers.ensures, refl),

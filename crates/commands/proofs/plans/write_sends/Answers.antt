@@ -9,7 +9,7 @@ loop-rank-init g c = appends_none _
 
 pub loop-rank-preserved : goal.loop-rank-preserved
 loop-rank-preserved g c =
-    one_more _ _ _ c.loop-rank.rank _ _ c.loop-rank.invariant c.in_ok-write_fmt.ensures.bytes
+    one_more _ _ _ c.loop-rank.rank _ _ c.loop-rank.invariant c.in_ok-put.ensures.bytes
     (ap (sends_line c.loop-rank.rank) (told_is (g.P.Plan.model c.args.plan.now) c.loop-rank.rank _ _ (sym c.sends.ensures ∙ c.in_ok-pixels.was)))
 
 pub returns : goal.returns
