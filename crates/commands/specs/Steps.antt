@@ -27,7 +27,7 @@ at link layers room = record { link = link; layers = layers; room = room }
 abbrev pub opens : ℕ → Opening → State
 opens room opening = opened opening.ranks opening.longest room
 
--- the state once a link or a layer is made, if one is to be made
+-- the state once a link or a layer is made
 abbrev pub makes : State → Next → State
 makes s (Link opening) = opens s.room opening
 makes s Layer = record s { link = trim_model s.link; layers = s.layers - 1 }
@@ -37,13 +37,13 @@ abbrev pub Calls : State → Option (LinkCall × List ℕ) → State → Option 
 Calls s asked s' before after = Appends before after (step s asked).0 × ((step s asked).1 ≡ s')
 
 -- what is told of a link or a layer once it is there
-abbrev pub made : List ℕ
-made = line_of (codes "ok")
+abbrev pub ready : List ℕ
+ready = line_of (codes "ok")
 
 -- a line's answer is written; where it asks for a link or a layer, it is answered once that is told
 abbrev pub Comes : State → Option (LinkCall × List ℕ) → State → Option Next → Option (List ℕ) → Option (List ℕ) → Type 0
 Comes s asked s' None before after = Calls s asked s' before after
-Comes s asked s' (Some next) before after = (now : Option (List ℕ)) → Appends after now made → Calls s asked (makes s' next) before now
+Comes s asked s' (Some next) before after = (now : Option (List ℕ)) → Appends after now ready → Calls s asked (makes s' next) before now
 
 -- a read is told, and leaves the link as it is
 abbrev pub Reads : LinkModel → LinkModel → ℕ → ℕ → ℕ → Option (List ℕ) → Option (List ℕ) → Type 0
@@ -59,8 +59,8 @@ Goes s s' input left before after =
 -- the lines are answered, all or up to one that asks for what is next, which is answered once that is told
 abbrev pub Reaches : {N : Type 0} → (N → State) → State → Option N → Option (List ℕ) → Option (List ℕ) → Option (List ℕ) → Option (List ℕ) → Type 0
 Reaches makes s None input left before after = Replays s input before after
-Reaches makes s (Some next) input left before after = (now : Option (List ℕ)) → Appends after now made → Goes s (makes next) input left before now
+Reaches makes s (Some next) input left before after = (now : Option (List ℕ)) → Appends after now ready → Goes s (makes next) input left before now
 
 -- what was made is told, and then the lines are answered from the state with it
 abbrev pub Begins : {N : Type 0} → (N → State) → State → Option N → Option (List ℕ) → Option (List ℕ) → Option (List ℕ) → Option (List ℕ) → Type 0
-Begins makes s next input left before after = (now : Option (List ℕ)) × Appends before now made × Reaches makes s next input left now after
+Begins makes s next input left before after = (now : Option (List ℕ)) × Appends before now ready × Reaches makes s next input left now after
