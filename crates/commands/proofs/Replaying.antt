@@ -14,7 +14,7 @@ use Rattle.request.specs.Links.{link_asked}
 use Rattle.request.specs.Words.{words_in}
 use Rattle.commands.specs.Replay.{State, asked, fresh, step, Replayed, Replayed.none, Replayed.more, Replays}
 use Rattle.commands.specs.declared.links.Next.{Next}
-use Rattle.commands.specs.Steps.{Calls, Comes, Goes, Reaches}
+use Rattle.commands.specs.Steps.{Awaits, Calls, Comes, Goes, Once, Reaches}
 use Rattle.commands.proofs.Lines.{appends_none, appends_both}
 
 pub begins : (s : State) (input before : Option (List ℕ)) → Goes s s input input before before
@@ -98,32 +98,46 @@ pub reaches :
     → Reaches makes s' next left left' now now'
     → Reaches makes s next input left' before now'
 reaches makes s s' None input left left' before now now' g h = replays_both s s' input left before now now' g h
-reaches makes s s' (Some n) input left left' before now now' g h = λ told w. goes_both s s' (makes n) input left left' before now told g (h told w)
+reaches makes s s' (Some n) input left left' before now now' g h = goes_both s s' (makes n) input left left' before now now' g h
+
+-- what follows from what holds, now or once what is to be made is told
+once : {N : Type 0} (next : Option N) (P Q : Option (List ℕ) → Type 0) (after : Option (List ℕ)) → ((now : Option (List ℕ)) → P now → Q now) → Once next P after → Once next Q after
+once None P Q after f h = f after h
+once (Some next) P Q after f h = λ now told. f now (h now told)
+
+pub awaits :
+    {N : Type 0} (makes : N → State) (s s' : State) (next : Option N) (input left left' before now now' : Option (List ℕ))
+    → Goes s s' input left before now
+    → Awaits makes s' next left left' now now'
+    → Awaits makes s next input left' before now'
+awaits makes s s' next input left left' before now now' g =
+    once next (Reaches makes s' next left left' now) (Reaches makes s next input left' before) now'
+    (λ told. reaches makes s s' next input left left' before now told g)
 
 -- what is next, by another name
-pub reaches_next :
+pub awaits_next :
     {N : Type 0} (makes : N → State) (s : State) (next next' : Option N) (input left before after : Option (List ℕ))
     → next ≡ next'
-    → Reaches makes s next input left before after
-    → Reaches makes s next' input left before after
-reaches_next {N = N} makes s next next' input left before after e = subst (λ (n : Option N). Reaches makes s n input left before after) e
+    → Awaits makes s next input left before after
+    → Awaits makes s next' input left before after
+awaits_next {N = N} makes s next next' input left before after e = subst (λ (n : Option N). Awaits makes s n input left before after) e
 
 -- what is reached from a state, by another name for it
-pub reaches_from :
+pub awaits_from :
     {N E : Type 0} (makes : N → State) (s t : State) (r : Result (Option N) E) (input left before after : Option (List ℕ))
     → s ≡ t
-    → IfOk r (λ next. Reaches makes s next input left before after)
-    → IfOk r (λ next. Reaches makes t next input left before after)
-reaches_from makes s t r input left before after e = subst (λ (u : State). IfOk r (λ next. Reaches makes u next input left before after)) e
+    → IfOk r (λ next. Awaits makes s next input left before after)
+    → IfOk r (λ next. Awaits makes t next input left before after)
+awaits_from makes s t r input left before after e = subst (λ (u : State). IfOk r (λ next. Awaits makes u next input left before after)) e
 
-pub reaches_ok :
+pub awaits_ok :
     {N E : Type 0} (makes : N → State) (s s' : State) (r : Result (Option N) E) (input left left' before now now' : Option (List ℕ))
     → Goes s s' input left before now
-    → IfOk r (λ next. Reaches makes s' next left left' now now')
-    → IfOk r (λ next. Reaches makes s next input left' before now')
-reaches_ok makes s s' r input left left' before now now' g =
-    IfOk-weaker r (λ next. Reaches makes s' next left left' now now') (λ next. Reaches makes s next input left' before now')
-    (λ next. reaches makes s s' next input left left' before now now' g)
+    → IfOk r (λ next. Awaits makes s' next left left' now now')
+    → IfOk r (λ next. Awaits makes s next input left' before now')
+awaits_ok makes s s' r input left left' before now now' g =
+    IfOk-weaker r (λ next. Awaits makes s' next left left' now now') (λ next. Awaits makes s next input left' before now')
+    (λ next. awaits makes s s' next input left left' before now now' g)
 
 -- whether a link that takes one more layer takes a layer
 pub takes_more : (n : ℕ) → true ≡ nat_lt 0 (suc n)

@@ -32,6 +32,11 @@ abbrev pub makes : State → Next → State
 makes s (Link opening) = opens s.room opening
 makes s Layer = record s { link = trim_model s.link; layers = s.layers - 1 }
 
+-- the same, if one is to be made
+abbrev pub made : State → Option Next → State
+made s None = s
+made s (Some next) = makes s next
+
 -- a line's answer is written, and its state reached
 abbrev pub Calls : State → Option (LinkCall × List ℕ) → State → Option (List ℕ) → Option (List ℕ) → Type 0
 Calls s asked s' before after = Appends before after (step s asked).0 × ((step s asked).1 ≡ s')
@@ -40,10 +45,14 @@ Calls s asked s' before after = Appends before after (step s asked).0 × ((step 
 abbrev pub ready : List ℕ
 ready = line_of (codes "ok")
 
--- a line's answer is written; where it asks for a link or a layer, it is answered once that is told
+-- what holds of the output now, or, where something is to be made, once that is told
+abbrev pub Once : {N : Type 0} → Option N → (Option (List ℕ) → Type 0) → Option (List ℕ) → Type 0
+Once None Holds after = Holds after
+Once (Some next) Holds after = (now : Option (List ℕ)) → Appends after now ready → Holds now
+
+-- a line's answer is written and its state reached, once what it asks for is told
 abbrev pub Comes : State → Option (LinkCall × List ℕ) → State → Option Next → Option (List ℕ) → Option (List ℕ) → Type 0
-Comes s asked s' None before after = Calls s asked s' before after
-Comes s asked s' (Some next) before after = (now : Option (List ℕ)) → Appends after now ready → Calls s asked (makes s' next) before now
+Comes s asked s' next before = Once next (Calls s asked (made s' next) before)
 
 -- a read is told, and leaves the link as it is
 abbrev pub Reads : LinkModel → LinkModel → ℕ → ℕ → ℕ → Option (List ℕ) → Option (List ℕ) → Type 0
@@ -56,11 +65,15 @@ Goes s s' input left before after =
     (λ text. (done : List ℕ) × (rest : List ℕ) × (left ≡ Some rest) × Appends before after done
     × ((out : List ℕ) → Replayed s' rest out → Replayed s text (done ++ out)))
 
--- the lines are answered, all or up to one that asks for what is next, which is answered once that is told
+-- the lines are answered up to one that asks for what is next, or all
 abbrev pub Reaches : {N : Type 0} → (N → State) → State → Option N → Option (List ℕ) → Option (List ℕ) → Option (List ℕ) → Option (List ℕ) → Type 0
 Reaches makes s None input left before after = Replays s input before after
-Reaches makes s (Some next) input left before after = (now : Option (List ℕ)) → Appends after now ready → Goes s (makes next) input left before now
+Reaches makes s (Some next) input left before after = Goes s (makes next) input left before after
+
+-- the same, once what is next is told
+abbrev pub Awaits : {N : Type 0} → (N → State) → State → Option N → Option (List ℕ) → Option (List ℕ) → Option (List ℕ) → Option (List ℕ) → Type 0
+Awaits makes s next input left before = Once next (Reaches makes s next input left before)
 
 -- what was made is told, and then the lines are answered from the state with it
 abbrev pub Begins : {N : Type 0} → (N → State) → State → Option N → Option (List ℕ) → Option (List ℕ) → Option (List ℕ) → Option (List ℕ) → Type 0
-Begins makes s next input left before after = (now : Option (List ℕ)) × Appends before now ready × Reaches makes s next input left now after
+Begins makes s next input left before after = (now : Option (List ℕ)) × Appends before now ready × Awaits makes s next input left now after

@@ -5,7 +5,7 @@ ghost use Rattle.std.specs.Io.KnownBytes.{Appends};
 ghost use Rattle.request.specs.Requests.{told};
 ghost use Rattle.commands.specs.declared.links.Next.TheVariants.{Layer};
 ghost use Rattle.commands.specs.Replay.{Replays, message_text, start};
-ghost use Rattle.commands.specs.Steps.{Begins, Comes, Reaches, Reads, at, makes, opens, outcome};
+ghost use Rattle.commands.specs.Steps.{Awaits, Begins, Comes, Reads, at, makes, opens, outcome};
 
 use boxes::cell::CellLink;
 use boxes::line::LineLink;
@@ -179,7 +179,7 @@ impl<R: BufRead + Drop> Replay<R> {
         more: bool,
         output: &mut W,
     ) -> anyhow::Result<Option<Next>>
-        ensures steps { IfOk result (λ next. (layers : ℕ) → more ≡ nat_lt 0 layers → Reaches (makes (at (L.model link.new) layers self.new.desk.room)) (at (L.model link.old) layers self.old.desk.room) next (split_known_bytes R.remaining self.old.lines) (split_known_bytes R.remaining self.new.lines) (W.contents output.old) (W.contents output.new)) }
+        ensures steps { IfOk result (λ next. (layers : ℕ) → more ≡ nat_lt 0 layers → Awaits (makes (at (L.model link.new) layers self.new.desk.room)) (at (L.model link.old) layers self.old.desk.room) next (split_known_bytes R.remaining self.old.lines) (split_known_bytes R.remaining self.new.lines) (W.contents output.old) (W.contents output.new)) }
         ensures lays { IfOk result (λ next. next ≡ Some Layer → more ≡ true) }
         ensures nearer { IfOk result (λ next. IfSome next (λ _. pieces_left_to_read self.new.lines < pieces_left_to_read self.old.lines)) }
     {
@@ -230,7 +230,7 @@ trait Layers {
         link: &mut L,
         output: &mut W,
     ) -> anyhow::Result<Option<Opening>>
-        ensures steps { IfOk result (λ next. Reaches (opens replay.new.desk.room) (at (L.model link.old) left replay.old.desk.room) next (split_known_bytes R.remaining replay.old.lines) (split_known_bytes R.remaining replay.new.lines) (W.contents output.old) (W.contents output.new)) }
+        ensures steps { IfOk result (λ next. Awaits (opens replay.new.desk.room) (at (L.model link.old) left replay.old.desk.room) next (split_known_bytes R.remaining replay.old.lines) (split_known_bytes R.remaining replay.new.lines) (W.contents output.old) (W.contents output.new)) }
         ensures nearer { IfOk result (λ next. IfSome next (λ _. pieces_left_to_read replay.new.lines < pieces_left_to_read replay.old.lines)) };
 }
 
