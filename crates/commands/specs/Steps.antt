@@ -50,7 +50,7 @@ abbrev pub Once : {N : Type 0} → Option N → (Option (List ℕ) → Type 0) �
 Once None Holds after = Holds after
 Once (Some next) Holds after = (now : Option (List ℕ)) → Appends after now ready → Holds now
 
--- a line's answer is written and its state reached, once what it asks for is told
+-- a line's answer is written and its state reached, once what is to be made is told
 abbrev pub Comes : State → Option (LinkCall × List ℕ) → State → Option Next → Option (List ℕ) → Option (List ℕ) → Type 0
 Comes s asked s' next before = Once next (Calls s asked (made s' next) before)
 
